@@ -1,0 +1,2 @@
+pub mod Grams
+pub mod Tonnes
