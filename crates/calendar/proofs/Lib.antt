@@ -1,0 +1,4 @@
+pub mod Months
+pub mod Range
+pub mod YearSum
+pub mod Examples
