@@ -1,0 +1,9 @@
+-- The factor is not steady, nor does it rise throughout: it drops from 4.9 to 5.0 degrees. Assumes nothing.
+use Prim.Native.Nat.{_<_}
+use lib.Dec.{lit<}
+use lib.IntN.{pos}
+use Rattle.factor.specs.Factor.{factors, entryOf, factorOf}
+
+pub drops : factorOf (pos 50) < factorOf (pos 49)
+unfolding factorOf entryOf factors
+drops = lit< tt

@@ -1,0 +1,6 @@
+pub mod Apart
+pub mod One
+pub mod Ends
+pub mod Entries
+pub mod Right
+pub mod Drop
