@@ -1,0 +1,10 @@
+pub mod Entry
+pub mod Left
+pub mod Parts
+pub mod Conserved
+pub mod Runs
+pub mod Same
+pub mod Demand3
+pub mod More
+pub mod Years
+pub mod Splitting

@@ -1,0 +1,43 @@
+-- A lagoon into which more enters each month, at the same temperatures and drain marks, degrades more, removes more and carries more on.
+-- Assumes nothing.
+use Prim.Native.Nat.{ℕ, zero, suc, _+_, _≤_}
+use mathlib.Core.Bool.{Bool, true, false}
+use native.Mathlib.Omega.{arith}
+use Rattle.lagoon.specs.declared.Month.{Month}
+use Rattle.lagoon.specs.declared.Totals.{Totals}
+use Rattle.lagoon.specs.Month.{million, outcomeOf}
+use Rattle.lagoon.specs.Run.{withOf, runFrom, runOf}
+use Rattle.lagoon.proofs.Parts.{Through, SameLagoon}
+use Rattle.lagoon.proofs.Left.{left-more}
+use Rattle.lagoon.proofs.Same.{at, shared}
+
+pub record EntersMore (less more : Month) : Type 0 where
+  pub entered : less .entered .0 ≤ more .entered .0
+  pub same : SameLagoon less more
+
+pub record More (less more : Totals) : Type 0 where
+  pub entered : less .entered .0 ≤ more .entered .0
+  pub degraded : less .degraded .0 ≤ more .degraded .0
+  pub removed : less .removed .0 ≤ more .removed .0
+  pub carried : less .standing .0 .0 ≤ more .standing .0 .0
+
+module _ (less more : Totals) (a b factor : ℕ) (enters : a ≤ b) (small : factor ≤ million) (kept : More less more) where
+  with-more : (drained : Bool) → More (withOf less (at factor drained a)) (withOf more (at factor drained b))
+  unfolding withOf outcomeOf
+  with-more drained =
+      let grows = left-more factor (a + less .standing .0 .0) (b + more .standing .0 .0) small (omega arith) in
+      elim drained [ true ↦ omega arith | false ↦ omega arith ]
+
+module _ (less more : ℕ → Month) where
+  pub more-degrades :
+      (n : ℕ) → Through n (λ m. EntersMore (less m) (more m)) → Through n (λ m. more m .factor ≤ million) →
+      More (runOf less n) (runOf more n)
+  unfolding runFrom
+  more-degrades zero enters small = omega arith
+  more-degrades (suc n) enters small =
+      let now = enters (suc n) (omega arith) (omega arith) in
+      rw (shared (less (suc n)) (more (suc n)) (now .same))
+      (with-more (runOf less n) (runOf more n) (less (suc n) .entered .0) (more (suc n) .entered .0) (more (suc n) .factor)
+      (now .entered) (small (suc n) (omega arith) (omega arith))
+      (more-degrades n (λ m low high. enters m low (omega arith)) (λ m low high. small m low (omega arith)))
+      (more (suc n) .drained))

@@ -1,0 +1,3 @@
+pub mod Month
+pub mod Run
+pub mod Asks
