@@ -1,0 +1,72 @@
+-- The starred figures of 01 ("Figures to check"), in its order, on the definitions themselves: what enters, the lagoon's months, the factor, the B0 rule
+-- and net. Each is computed. Assumes nothing.
+use mathlib.Core.Bool.{Bool, true, false}
+use mathlib.Core.Path.{_≡_, refl}
+use Prim.Native.Nat.{ℕ, _≤_, _<_}
+use lib.Dec.{lit<, lit≤}
+use lib.IntN.{pos, negℤ}
+use Rattle.units.specs.declared.solids.Solids.{Solids}
+use Rattle.units.specs.Grams.{solids, co2e, potential, b0RuleOf}
+use Rattle.units.specs.Tonnes.{netOf}
+use Rattle.calendar.specs.Days.{leapOf, februaryOf, lengthsOf, lengthOf, goneOf, daysOf}
+use Rattle.factor.specs.Factor.{factors, entryOf, factorOf}
+use Rattle.lagoon.specs.declared.Standing.{Standing}
+use Rattle.lagoon.specs.declared.Outcome.{Outcome}
+use Rattle.lagoon.specs.Month.{enteredOf, emptyOf, outcomeOf}
+
+-- 100 head, table solids 1000, mass 6000, share 10,000, in a month counted from January 2011
+abbrev pub herd : ℕ → Solids
+herd month = enteredOf 100 1000 6000 10000 (daysOf 2011 1 month)
+
+-- a month of that herd at 4.9 degrees
+abbrev pub at-4·9 : Standing → ℕ → Bool → Outcome
+at-4·9 standing month drained =
+    outcomeOf standing (record { entered = herd month; factor = factorOf (pos 49); drained = drained })
+
+abbrev pub january : Bool → Outcome
+january drained = at-4·9 emptyOf 1 drained
+
+abbrev pub february : Bool → Outcome
+february drained = at-4·9 (january drained .next) 2 false
+
+pub record Starred : Type 0 where
+  pub enters-31-days : herd 1 ≡ solids 14880000
+  pub enters-28-days : herd 2 ≡ solids 13440000
+  pub january-degraded : january false .degraded ≡ solids 1547520
+  pub january-carried : january false .next .0 ≡ solids 13332480
+  pub february-degraded : february false .degraded ≡ solids 2784337
+  pub february-carried : february false .next .0 ≡ solids 23988143
+  pub january-removed : january true .removed ≡ solids 13332480
+  pub february-after-it-degraded : february true .degraded ≡ solids 1397760
+  pub at-4·9-degrees : factorOf (pos 49) ≡ 104000
+  pub at-5·0-degrees : (102000 ≤ factorOf (pos 50)) × (factorOf (pos 50) < 103000)
+  pub at-30·1-degrees : (995000 ≤ factorOf (pos 301)) × (factorOf (pos 301) < 996000)
+  pub at-30·2-degrees : factorOf (pos 302) ≡ 1000000
+  pub b0-rule : b0RuleOf (solids 1000000) 24 potential ≡ co2e 3427200
+  pub half : netOf (pos 500000) ≡ pos 0
+  pub above-half : netOf (pos 500001) ≡ pos 1
+  pub above-minus-half : netOf (negℤ (pos 499999)) ≡ pos 0
+  pub minus-half : netOf (negℤ (pos 500000)) ≡ negℤ (pos 1)
+
+pub starred : Starred
+unfolding enteredOf outcomeOf daysOf goneOf lengthOf lengthsOf februaryOf leapOf factorOf entryOf factors b0RuleOf
+starred =
+    record {
+      enters-31-days = refl;
+      enters-28-days = refl;
+      january-degraded = refl;
+      january-carried = refl;
+      february-degraded = refl;
+      february-carried = refl;
+      january-removed = refl;
+      february-after-it-degraded = refl;
+      at-4·9-degrees = refl;
+      at-5·0-degrees = (lit≤ tt, lit< tt);
+      at-30·1-degrees = (lit≤ tt, lit< tt);
+      at-30·2-degrees = refl;
+      b0-rule = refl;
+      half = refl;
+      above-half = refl;
+      above-minus-half = refl;
+      minus-half = refl;
+    }
