@@ -1,0 +1,6 @@
+pub mod Comparisons
+pub mod Cutting
+pub mod Edges
+pub mod Most
+pub mod Product
+pub mod States

@@ -1,0 +1,74 @@
+// An hour's reading, by its state: what is missing is not there to be looked at.
+ghost use mathlib.Core.Path.{_≡_};
+ghost use Prim.Native.Nat.{_<_};
+ghost use lib.ListN.{length};
+ghost use Rattle.reading.specs.Exact.{isUpTo, mostCubicMetres, mostPerCent};
+ghost use Rattle.reading.specs.Hour.{isOut, readingAt, isSound};
+
+// Flow and content, one of them, or nothing.
+pub enum Reading {
+    Both(f32, f32),
+    NoFlow(f32),
+    NoContent(f32),
+    Neither,
+}
+
+// What is added to a state when the device was out. What is left says which values are there; 3 says neither.
+const OUT: u8 = 4;
+
+// The state of an hour with flow and content.
+const BOTH: u8 = 0;
+
+// The state of an hour with a content alone.
+const NO_FLOW: u8 = 1;
+
+// The state of an hour with a flow alone.
+const NO_CONTENT: u8 = 2;
+
+// Whether the device was out.
+pub fn is_out(state: u8) -> bool
+    ensures { λ r. ⌜ r ≡ isOut state ⌝ }
+{
+    state / OUT % 2 == 1
+}
+
+// The reading of an hour, from 0.
+pub fn reading_at(flows: &[f32], contents: &[f32], states: &[u8], hour: usize) -> Reading
+    requires { ⌜ (hour < length (now flows)) × (hour < length (now contents)) × (hour < length (now states)) ⌝ }
+    ensures { λ r. ⌜ r ≡ readingAt (now (flows .entry)) (now (contents .entry)) (now (states .entry)) hour ⌝ }
+{
+    match states[hour] % OUT {
+        BOTH => Reading::Both(flows[hour], contents[hour]),
+        NO_FLOW => Reading::NoFlow(contents[hour]),
+        NO_CONTENT => Reading::NoContent(flows[hour]),
+        _ => Reading::Neither,
+    }
+}
+
+// Whether each value that is present is a number in its range.
+pub fn is_sound(reading: Reading) -> bool
+    ensures { λ r. ⌜ r ≡ isSound reading ⌝ }
+{
+    match reading {
+        Reading::Both(flow, content) => if is_flow(flow) {
+            is_content(content)
+        } else {
+            false
+        },
+        Reading::NoFlow(content) => is_content(content),
+        Reading::NoContent(flow) => is_flow(flow),
+        Reading::Neither => true,
+    }
+}
+
+fn is_flow(flow: f32) -> bool
+    ensures { λ r. ⌜ r ≡ isUpTo mostCubicMetres flow ⌝ }
+{
+    crate::is_up_to(flow, crate::MOST_CUBIC_METRES)
+}
+
+fn is_content(content: f32) -> bool
+    ensures { λ r. ⌜ r ≡ isUpTo mostPerCent content ⌝ }
+{
+    crate::is_up_to(content, crate::MOST_PER_CENT)
+}
