@@ -1,0 +1,60 @@
+-- An hour more: of a sum, of the run that an hour stands in, and of an array that holds a series.
+-- Assumes nothing.
+use Prim.Native.Nat.{ℕ, zero, suc, _+_, _-_, _≤_, _<_}
+use mathlib.Core.Path.{_≡_, refl, ap, _∙_}
+use mathlib.Core.Bool.{Bool, true, false, cond}
+use mathlib.Core.List.{List}
+use native.Mathlib.Numerals.{add-one}
+use native.Mathlib.Omega.{arith}
+use borrow.Author.Count.{below-more}
+use lib.ListN.{length, set}
+use lib.Seq.{getD-set-same, getD-set-other}
+use Rattle.gaps.specs.Series.{isRecorded, valueOf, slotOf, series}
+use Rattle.gaps.specs.Filling.{startOf, plus, totalOf}
+use Rattle.gaps.specs.declared.Value.{Value}
+use Rattle.gaps.specs.declared.Value.the-variants.{Recorded, Missing}
+
+-- a slot that is read, and one that is written
+pub slot-read : (x : ℕ) → (x ≡ 0 → ⊥) → Recorded (x - 1) ≡ valueOf x
+slot-read zero h = absurd (h refl)
+slot-read (suc x) h = ap Recorded (omega arith)
+
+pub slot-written : (v : Value) → valueOf (slotOf v) ≡ v
+slot-written (Recorded n) = ap valueOf (add-one n)
+slot-written Missing = refl
+
+pub total-more :
+    (s : ℕ → Value) (a k : ℕ) {t v : Value} → t ≡ totalOf s a k → v ≡ s (a + k) → plus t v ≡ totalOf s a (k + 1)
+unfolding totalOf
+total-more s a k p q = rw (add-one k, p, q)
+
+pub start-le : (s : ℕ → Value) (h : ℕ) → startOf s h ≤ h
+unfolding startOf
+start-le s zero = omega arith
+start-le s (suc h) = picked-le (isRecorded (s h)) (omega arith) (let l = start-le s h in omega arith)
+  where
+    picked-le : (b : Bool) {x y u : ℕ} → x ≤ u → y ≤ u → cond b x y ≤ u
+    picked-le true p q = p
+    picked-le false p q = q
+
+module _ (s : ℕ → Value) (h : ℕ) where
+  -- after a recorded hour a run begins anew, and after a missing one it goes on
+  pub start-anew : isRecorded (s h) ≡ true → h + 1 ≡ startOf s (h + 1)
+  unfolding startOf
+  start-anew e = rw (add-one h, e)
+
+  pub start-same : isRecorded (s h) ≡ false → startOf s h ≡ startOf s (h + 1)
+  unfolding startOf
+  start-same e = rw (add-one h, e)
+
+module _ (l : List ℕ) (i : ℕ) (v : Value) where
+  pub stored :
+      (P : ℕ → Value) → i < length l → ((k : ℕ) → k < i → series l k ≡ P k) → v ≡ P i →
+      (k : ℕ) → k < i + 1 → series (set l i (slotOf v)) k ≡ P k
+  stored P b p q =
+      below-more (λ (k : ℕ). series (set l i (slotOf v)) k ≡ P k) i
+      (λ k h. ap valueOf (getD-set-other l i k (slotOf v) 0 (λ e. omega arith)) ∙ p k h)
+      (ap valueOf (getD-set-same l i (slotOf v) 0 b) ∙ (slot-written v ∙ q))
+
+  pub later : ((k : ℕ) → i ≤ k → series l k ≡ Missing) → (k : ℕ) → i + 1 ≤ k → series (set l i (slotOf v)) k ≡ Missing
+  later p k h = ap valueOf (getD-set-other l i k (slotOf v) 0 (λ e. omega arith)) ∙ p k (omega arith)

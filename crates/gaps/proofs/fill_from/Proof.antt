@@ -1,0 +1,29 @@
+-- `gaps::fill_from` meets its contract, by those of `end_from` and `fill_of`.
+-- Assumes nothing.
+use native.Mathlib.Omega.{arith}
+use mathlib.Core.Path.{_∙_, ap}
+use lib.ListN.{length}
+use Rattle.gaps.specs.Series.{isRecorded, series}
+use Rattle.gaps.specs.Filling.{fillOf}
+use Rattle.gaps.proofs.First.{first-between}
+use borrow.Author.Needs.{needs}
+use Rattle.gaps.proofs.fill_from.Statement.{statement}
+use Rattle.gaps.proofs.fill_from.Tie as tie
+
+end-from-requires : tie.Need-end-from-requires
+end-from-requires c κs = search needs
+
+fill-of-requires : tie.Need-fill-of-requires
+fill-of-requires c κs =
+    let s = c .before .before in
+    let hours = s .args .hours .now in
+    let b = first-between (λ j. isRecorded (series hours j)) (length hours) (s .args .start) (s .pre .0 .0) in
+    (rw (c .end-from .ensures) (omega arith), s .pre .1)
+
+returns : tie.Need-returns
+returns c =
+    let s = c .before .before .before in
+    c .fill-of .ensures ∙ ap (fillOf (s .args .unit) (series (s .args .hours .now)) (s .args .start)) (c .before .end-from .ensures)
+
+pub fill-from-spec : {M : Type 1} → statement M
+fill-from-spec = tie.close (tie.spec end-from-requires fill-of-requires returns)

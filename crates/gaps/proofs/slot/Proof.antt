@@ -1,0 +1,27 @@
+-- `gaps::slot` meets its contract: the number is small enough for one more.
+-- Assumes nothing.
+use mathlib.Core.Path.{sym, ap}
+use native.Mathlib.Omega.{arith}
+use Rattle.gaps.specs.Series.{slotOf}
+use Rattle.gaps.proofs.Sizes.{amount-of}
+use borrow.Author.Needs.{needs}
+use Rattle.gaps.proofs.slot.Statement.{statement}
+use Rattle.gaps.proofs.slot.Tie as tie
+
+enum-known-value : tie.Need-enum-known-value
+enum-known-value c = search needs
+
+add-result : tie.Need-add-result
+add-result c = omega (arith, amount-of (c .before .before .before .args .value) (c .before .value .given .0 .0) (c .before .value .given .1))
+
+enum-told : tie.Need-enum-told
+enum-told c = search needs
+
+returns : tie.Need-returns
+returns c = sym (ap slotOf (c .before .value .given .1))
+
+returns-2 : tie.Need-returns-2
+returns-2 c = search needs
+
+pub slot-spec : {M : Type 1} → statement M
+slot-spec = tie.close (tie.spec enum-known-value add-result enum-told returns returns-2)

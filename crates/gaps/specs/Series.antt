@@ -1,0 +1,42 @@
+-- A month's series: each hour, from 0, recorded a whole number, or nothing. It stands in an array, and past the array's end nothing is recorded.
+use Prim.Native.Nat.{ℕ, zero, suc, _+_, _≤_, _<_, _^_}
+use mathlib.Core.Bool.{Bool, true, false}
+use mathlib.Core.List.{List}
+use lib.ListN.{getD}
+use Rattle.gaps.specs.declared.Value.{Value}
+use Rattle.gaps.specs.declared.Value.the-variants.{Recorded, Missing}
+
+abbrev pub isRecorded : Value → Bool
+isRecorded (Recorded n) = true
+isRecorded Missing = false
+
+-- in an array 0 stands for nothing, and n + 1 for n
+abbrev pub valueOf : ℕ → Value
+valueOf zero = Missing
+valueOf (suc n) = Recorded n
+
+abbrev pub slotOf : Value → ℕ
+slotOf (Recorded n) = n + 1
+slotOf Missing = 0
+
+abbrev pub series : List ℕ → ℕ → Value
+series hours h = valueOf (getD hours h 0)
+
+-- the number recorded, 0 where there is none
+unfoldable pub amount : Value → ℕ
+amount (Recorded n) = n
+amount Missing = 0
+
+-- the hours of the longest month
+abbrev pub mostHours : ℕ
+mostHours = 744
+
+-- what the code asks of a series and of the unit of its averages: that eight of its numbers, and eight units, fit 64 bits
+abbrev pub mostAmount : ℕ
+mostAmount = 2 ^ 60
+
+abbrev pub Small : List ℕ → Type 0
+Small hours = (h : ℕ) → amount (series hours h) ≤ mostAmount
+
+abbrev pub IsUnit : ℕ → Type 0
+IsUnit unit = (0 < unit) × (unit ≤ mostAmount)

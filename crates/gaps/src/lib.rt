@@ -1,0 +1,204 @@
+// Filling the gaps of a month's series (01, "The meter month"). A series is whole numbers recorded hour by hour, or missing; what they
+// count is nothing to this crate.
+//
+// A run of missing hours is walked once, at its first hour, and what fills it is worked out there, so that the whole is linear in the hours.
+ghost use mathlib.Core.Path.{_≡_};
+ghost use Prim.Native.Nat.{ℕ, _+_, _*_, _≤_, _<_};
+ghost use lib.ListN.{length};
+ghost use Rattle.gaps.specs.Series.{isRecorded, slotOf, valueOf, series, amount, mostAmount, mostHours, Small, IsUnit};
+ghost use Rattle.gaps.specs.Filling.{neighbours, plus, totalOf, inUnits, endOf, averageOf, fillOf, fillFrom, orElse, startOf, filled};
+
+// What an hour of a series has: a whole number, or nothing.
+pub enum Value {
+    Recorded(u64),
+    Missing,
+}
+
+// The hours of the longest month.
+pub const MOST_HOURS: usize = 744;
+
+// A run of up to so many hours is filled.
+const LONGEST: usize = 5;
+
+// So many hours before a run make its average, and as many after it.
+const NEIGHBOURS: usize = 4;
+
+// The hours of an average, of both sides.
+const AVERAGED: u64 = 8;
+
+// The series after filling. Averages are in whole units, each so many of the series' own numbers.
+pub fn fill(hours: &[u64], unit: u64) -> [u64; MOST_HOURS]
+    requires { ⌜ length (now hours) ≤ mostHours ⌝ }
+    requires { ⌜ Small (now hours) ⌝ }
+    requires { ⌜ IsUnit unit ⌝ }
+    ensures { λ r. ⌜ length r ≡ mostHours ⌝ }
+    ensures { λ r. ⌜ ((h : ℕ) → series r h ≡ filled unit (series (now (hours .entry))) (length (now (hours .entry))) h) ⌝ }
+{
+    let mut out = [0u64; MOST_HOURS];
+    let mut filling = fill_from(hours, unit, 0);
+    for hour in 0..hours.len() {
+        let value = at(hours, hour);
+        out[hour] = slot(or_else(value, filling));
+        filling = next(filling, hours, unit, hour, value);
+    }
+    out
+}
+
+fn or_else(value: Value, filling: Value) -> Value
+    ensures { λ r. ⌜ r ≡ orElse value filling ⌝ }
+{
+    match value {
+        Value::Recorded(n) => Value::Recorded(n),
+        Value::Missing => filling,
+    }
+}
+
+// What fills the run that the next hour stands in: another run begins only after a recorded hour.
+fn next(filling: Value, hours: &[u64], unit: u64, hour: usize, value: Value) -> Value
+    requires { ⌜ (hour < length (now hours)) × (length (now hours) ≤ mostHours) ⌝ }
+    requires { ⌜ Small (now hours) ⌝ }
+    requires { ⌜ IsUnit unit ⌝ }
+    requires { ⌜ value ≡ series (now hours) hour ⌝ }
+    requires { ⌜ filling ≡ fillFrom unit (series (now hours)) (length (now hours)) (startOf (series (now hours)) hour) ⌝ }
+    ensures { λ r. ⌜ r ≡ fillFrom unit (series (now (hours .entry))) (length (now (hours .entry))) (startOf (series (now (hours .entry))) (hour + 1)) ⌝ }
+{
+    if is_recorded(value) {
+        return fill_from(hours, unit, hour + 1);
+    }
+    filling
+}
+
+// What fills the run that starts at an hour; nothing where that hour is recorded.
+fn fill_from(hours: &[u64], unit: u64, start: usize) -> Value
+    requires { ⌜ (start ≤ length (now hours)) × (length (now hours) ≤ mostHours) ⌝ }
+    requires { ⌜ Small (now hours) ⌝ }
+    requires { ⌜ IsUnit unit ⌝ }
+    ensures { λ r. ⌜ r ≡ fillFrom unit (series (now (hours .entry))) (length (now (hours .entry))) start ⌝ }
+{
+    fill_of(hours, unit, start, end_from(hours, start))
+}
+
+// The first recorded hour from `start` on, or the month's end.
+fn end_from(hours: &[u64], start: usize) -> usize
+    requires { ⌜ start ≤ length (now hours) ⌝ }
+    ensures { λ r. ⌜ r ≡ endOf (series (now (hours .entry))) (length (now (hours .entry))) start ⌝ }
+{
+    let mut end = start;
+    while end < hours.len() {
+        if is_recorded(at(hours, end)) {
+            return end;
+        }
+        end += 1;
+    }
+    end
+}
+
+// What fills the run from `start` up to `end`.
+fn fill_of(hours: &[u64], unit: u64, start: usize, end: usize) -> Value
+    requires { ⌜ (start ≤ end) × (end ≤ mostHours) ⌝ }
+    requires { ⌜ Small (now hours) ⌝ }
+    requires { ⌜ IsUnit unit ⌝ }
+    ensures { λ r. ⌜ r ≡ fillOf unit (series (now (hours .entry))) start end ⌝ }
+{
+    let length = end - start;
+    if length < 1 {
+        return Value::Missing;
+    }
+    if LONGEST < length {
+        return Value::Missing;
+    }
+    average(hours, unit, start, end)
+}
+
+// The average of the neighbours of a run, where each is recorded.
+fn average(hours: &[u64], unit: u64, start: usize, end: usize) -> Value
+    requires { ⌜ (start ≤ mostHours) × (end ≤ mostHours) ⌝ }
+    requires { ⌜ Small (now hours) ⌝ }
+    requires { ⌜ IsUnit unit ⌝ }
+    ensures { λ r. ⌜ r ≡ averageOf unit (series (now (hours .entry))) start end ⌝ }
+{
+    if start < NEIGHBOURS {
+        return Value::Missing;
+    }
+    let before = total(hours, start - NEIGHBOURS);
+    let after = total(hours, end);
+    in_units(sum(before, after), unit)
+}
+
+// The sum of as many hours as there are neighbours on a side, where each is recorded.
+fn total(hours: &[u64], from: usize) -> Value
+    requires { ⌜ from ≤ mostHours ⌝ }
+    requires { ⌜ Small (now hours) ⌝ }
+    ensures { λ r. ⌜ r ≡ totalOf (series (now (hours .entry))) from neighbours ⌝ }
+{
+    let mut sum_of = Value::Recorded(0);
+    for i in 0..NEIGHBOURS {
+        sum_of = sum(sum_of, at(hours, from + i));
+    }
+    sum_of
+}
+
+fn sum(a: Value, b: Value) -> Value
+    requires { ⌜ (amount a ≤ neighbours * mostAmount) × (amount b ≤ neighbours * mostAmount) ⌝ }
+    ensures { λ r. ⌜ r ≡ plus a b ⌝ }
+{
+    match a {
+        Value::Recorded(x) => match b {
+            Value::Recorded(y) => Value::Recorded(x + y),
+            Value::Missing => Value::Missing,
+        },
+        Value::Missing => Value::Missing,
+    }
+}
+
+// The average that a sum of all neighbours gives, in whole units, rounded down.
+fn in_units(total: Value, unit: u64) -> Value
+    requires { ⌜ IsUnit unit ⌝ }
+    ensures { λ r. ⌜ r ≡ inUnits unit total ⌝ }
+{
+    match total {
+        Value::Recorded(n) => Value::Recorded(n / (AVERAGED * unit) * unit),
+        Value::Missing => Value::Missing,
+    }
+}
+
+pub fn is_recorded(value: Value) -> bool
+    ensures { λ r. ⌜ r ≡ isRecorded value ⌝ }
+{
+    match value {
+        Value::Recorded(_) => true,
+        Value::Missing => false,
+    }
+}
+
+// A series stands in an array: 0 for nothing, and n + 1 for n, so that an array of zeros is the series that has nothing.
+pub fn read(slot: u64) -> Value
+    ensures { λ r. ⌜ r ≡ valueOf slot ⌝ }
+{
+    if slot == 0 {
+        Value::Missing
+    } else {
+        Value::Recorded(slot - 1)
+    }
+}
+
+pub fn slot(value: Value) -> u64
+    requires { ⌜ amount value ≤ mostAmount ⌝ }
+    ensures { λ r. ⌜ r ≡ slotOf value ⌝ }
+{
+    match value {
+        Value::Recorded(n) => n + 1,
+        Value::Missing => 0,
+    }
+}
+
+// What stands at an hour; past the end, nothing.
+fn at(hours: &[u64], hour: usize) -> Value
+    ensures { λ r. ⌜ r ≡ series (now (hours .entry)) hour ⌝ }
+{
+    if hour < hours.len() {
+        read(hours[hour])
+    } else {
+        Value::Missing
+    }
+}
