@@ -1,0 +1,38 @@
+-- `page::put` meets its contract: what `bytes::copy` leaves in the part, put back, is the text laid there.
+-- Assumes nothing.
+use mathlib.Core.Path.{refl}
+use Rattle.page.proofs.Laying.{copied}
+use borrow.Author.Needs.{needs}
+use Rattle.page.proofs.put.Statement.{statement}
+use Rattle.page.proofs.put.Tie as tie
+
+add-end : tie.Need-add-end
+add-end c = search needs
+
+sub-copy : tie.Need-sub-copy
+sub-copy c = search needs
+
+part-copy-start : tie.Need-part-copy-start
+part-copy-start c = search needs
+
+part-copy-end : tie.Need-part-copy-end
+part-copy-end c = search needs
+
+copy-requires : tie.Need-copy-requires
+copy-requires c κs = search needs
+
+same-length : tie.Need-same-length
+same-length c = search needs
+
+returns : tie.Need-returns
+returns c =
+    let s = c .before .before .before .before .before .before in
+    record {
+      ends = refl;
+      bytes = copied (s .args .page .now) (c .before .before .copy .last .1 .0) (s .args .text .now) (s .args .at) (c .before .before .copy .ensures .1);
+    }
+
+pub put-spec : {M : Type 1} → statement M
+put-spec =
+    tie.close
+    (tie.spec add-end sub-copy part-copy-start part-copy-end copy-requires same-length returns)
