@@ -1,0 +1,5 @@
+pub mod Hours
+pub mod Readings
+pub mod Sizes
+pub mod Totals
+pub mod Weighing
