@@ -1,0 +1,80 @@
+-- An input that is longer than any month is refused, whatever its bytes after the mark: so an input is read no further than that.
+-- Assumes nothing.
+use Prim.Native.Nat.{ℕ, _≤_}
+use mathlib.Core.Path.{_≡_, refl, ap, sym, _∙_}
+use mathlib.Core.Bool.{Bool, true, false, _&&_, cond}
+use mathlib.Core.List.{List}
+use native.Mathlib.Omega.{arith}
+use borrow.Author.Tests.{eqb-true, le-leb}
+use lib.Dec.{eqb, leb}
+use lib.Ieee.{Float}
+use lib.ListN.{length, take, drop, length-drop}
+use lib.Seq.{getD-take, length-take-le}
+use Rattle.gaps.specs.Series.{mostHours}
+use Rattle.meter.specs.declared.MonthAnswer.{MonthAnswer}
+use Rattle.meter.specs.declared.MonthAnswer.the-variants.{Refused}
+use Rattle.meter.specs.Month.{areHours, monthOf}
+use Rattle.meter.proofs.Hours.{as-long}
+use Rattle.month.specs.Input.{isOtherMark, floatsAt, flowsOf, contentsOf, contentsFrom, statesFrom, lengthOf, efficiencyOf, lentOf, statedOf}
+use Rattle.month.proofs.Floats.{floats-length}
+
+-- what is no month is refused 10
+not-hours : (b : Bool) (f c s : ℕ) → areHours f c s ≡ b → ((f ≡ s) × (c ≡ s) × (s ≤ mostHours) → ⊥) → b ≡ false
+not-hours true f c s e h = absurd (h (as-long f c s e))
+not-hours false f c s e h = refl
+
+pub no-month :
+    (flows contents : List Float) (states : List ℕ) (efficiency : ℕ) →
+    ((length flows ≡ length states) × (length contents ≡ length states) × (length states ≤ mostHours) → ⊥) →
+    monthOf flows contents states efficiency ≡ Refused 10 0
+unfolding monthOf
+no-month flows contents states efficiency h =
+    let n : areHours (length flows) (length contents) (length states) ≡ false =
+    not-hours (areHours (length flows) (length contents) (length states)) (length flows) (length contents) (length states) refl h in
+    rw n
+
+pub lent-none :
+    (input : List ℕ) → ((flowsOf input ≡ length (drop (statesFrom input) input)) × (contentsOf input ≡ length (drop (statesFrom input) input)) × (length (drop (statesFrom input) input) ≤ mostHours) → ⊥) →
+    lentOf input ≡ Refused 10 0
+unfolding lentOf
+lent-none input h =
+    no-month (floatsAt input 10 (flowsOf input)) (floatsAt input (contentsFrom input) (contentsOf input)) (drop (statesFrom input) input)
+    (efficiencyOf input)
+    (λ e. h (
+      sym (floats-length input 10 (flowsOf input)) ∙ e .0,
+      sym (floats-length input (contentsFrom input) (contentsOf input)) ∙ e .1,
+      e .2,
+    ))
+
+-- a byte more than the longest month has
+abbrev pub tooLong : ℕ
+tooLong = 6707
+
+picked : (b : Bool) (a : MonthAnswer) → (b ≡ true → a ≡ Refused 10 0) → cond b a (Refused 10 0) ≡ Refused 10 0
+picked true a h = h refl
+picked false a h = refl
+
+and-r : (a b : Bool) → (a && b) ≡ true → b ≡ true
+and-r true b e = e
+and-r false b e = let z : _≡_ {A = ℕ} 0 1 = cc in absurd (omega arith)
+
+long-refused : (input : List ℕ) → tooLong ≤ length input → statedOf input ≡ cond (isOtherMark input) (Refused 2 0) (Refused 10 0)
+unfolding statedOf
+long-refused input long =
+    ap (cond (isOtherMark input) (Refused 2 0))
+    (picked (leb 10 (length input) && eqb (length input) (lengthOf input)) (lentOf input)
+    (λ e.
+    let whole : length input ≡ lengthOf input = eqb-true (length input) (lengthOf input) (and-r (leb 10 (length input)) (eqb (length input) (lengthOf input)) e) in
+    lent-none input (λ h. omega (arith, whole, h .0, h .1, h .2, length-drop (statesFrom input) input))))
+
+same-mark : (input : List ℕ) → tooLong ≤ length input → isOtherMark (take tooLong input) ≡ isOtherMark input
+same-mark input long =
+    let sized : length (take tooLong input) ≡ tooLong = length-take-le tooLong input long in
+    rw (sized, getD-take tooLong input 0 0 (omega arith), getD-take tooLong input 1 0 (omega arith), le-leb 2 (length input) (omega arith))
+
+-- what stands past that byte changes nothing
+pub cut-long : (input : List ℕ) → tooLong ≤ length input → statedOf (take tooLong input) ≡ statedOf input
+cut-long input long =
+    long-refused (take tooLong input) (rw (length-take-le tooLong input long) (omega arith))
+    ∙ ap (λ (b : Bool). cond b (Refused 2 0) (Refused 10 0)) (same-mark input long)
+    ∙ sym (long-refused input long)
