@@ -1,10 +1,12 @@
--- The starred figures of 01 ("Figures to check"), in its order, on the definitions themselves: what enters, the lagoon's months, the factor, the B0 rule
--- and net. Each is computed. Assumes nothing.
+-- The starred figures of 01 ("Figures to check"), in its order, on the definitions themselves: what enters, the lagoon's months, the factor, the B0 rule,
+-- net and the meter's hour. Each is computed. Assumes nothing.
 use mathlib.Core.Bool.{Bool, true, false}
 use mathlib.Core.Path.{_≡_, refl}
 use Prim.Native.Nat.{ℕ, _≤_, _<_}
 use lib.Dec.{lit<, lit≤}
 use lib.IntN.{pos, negℤ}
+use lib.Ieee.{Float, binary32, round}
+use mathlib.Core.List.{[], _∷_}
 use Rattle.units.specs.declared.solids.Solids.{Solids}
 use Rattle.units.specs.Grams.{solids, co2e, potential, b0RuleOf}
 use Rattle.units.specs.Tonnes.{netOf}
@@ -13,6 +15,12 @@ use Rattle.factor.specs.Factor.{factors, entryOf, factorOf}
 use Rattle.lagoon.specs.declared.Standing.{Standing}
 use Rattle.lagoon.specs.declared.Outcome.{Outcome}
 use Rattle.lagoon.specs.Month.{enteredOf, emptyOf, outcomeOf}
+use Rattle.reading.specs.declared.Measure.the-variants.{Whole}
+use Rattle.reading.specs.Exact.{isUpTo, timesDown, scaledOf, hundredthsOf}
+use Rattle.reading.specs.Hour.{readingOf}
+use Rattle.gaps.specs.Filling.{filled}
+use Rattle.meter.specs.Hour.{recordedOf, recordedAt, gramsIn, hourOf}
+use Rattle.meter.specs.Month.{sumOf, gramsOf, destroyedOf, meteredOf}
 
 -- 100 head, table solids 1000, mass 6000, share 10,000, in a month counted from January 2011
 abbrev pub herd : ℕ → Solids
@@ -28,6 +36,14 @@ january drained = at-4·9 emptyOf 1 drained
 
 abbrev pub february : Bool → Outcome
 february drained = at-4·9 (january drained .next) 2 false
+
+-- the f32 nearest to n / d
+abbrev pub nearest : ℕ → ℕ → Float
+nearest n d = round binary32 false n d
+
+-- an hour by itself at flow 100.0 and content 60.0, both present
+abbrev pub hour : ℕ → ℕ
+hour efficiency = meteredOf (nearest 100 1 ∷ []) (nearest 60 1 ∷ []) (0 ∷ []) efficiency
 
 pub record Starred : Type 0 where
   pub enters-31-days : herd 1 ≡ solids 14880000
@@ -47,9 +63,12 @@ pub record Starred : Type 0 where
   pub above-half : netOf (pos 500001) ≡ pos 1
   pub above-minus-half : netOf (negℤ (pos 499999)) ≡ pos 0
   pub minus-half : netOf (negℤ (pos 500000)) ≡ negℤ (pos 1)
+  pub hour-destroyed : hour 10000 ≡ 40800
+  pub hour-at-9800 : hour 9800 ≡ 39984
+  pub content-60·1 : hundredthsOf (nearest 601 10) ≡ Whole 6009
 
 pub starred : Starred
-unfolding enteredOf outcomeOf daysOf goneOf lengthOf lengthsOf februaryOf leapOf factorOf entryOf factors b0RuleOf
+unfolding enteredOf outcomeOf daysOf goneOf lengthOf lengthsOf februaryOf leapOf factorOf entryOf factors b0RuleOf meteredOf destroyedOf gramsOf sumOf hourOf gramsIn recordedAt recordedOf readingOf filled scaledOf isUpTo timesDown round
 starred =
     record {
       enters-31-days = refl;
@@ -69,4 +88,7 @@ starred =
       above-half = refl;
       above-minus-half = refl;
       minus-half = refl;
+      hour-destroyed = refl;
+      hour-at-9800 = refl;
+      content-60·1 = refl;
     }
