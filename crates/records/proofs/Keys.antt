@@ -1,0 +1,86 @@
+-- Every slot lies inside the book, and a slot tells its key: keys of a row are counted as digits, and the rows' slots follow each other.
+-- Assumes nothing.
+use mathlib.Core.Path.{_≡_, refl, sym, ap, _∙_, subst}
+use mathlib.Core.Bool.{Bool, true, false, _&&_}
+use mathlib.Core.List.{List, [], _∷_}
+use Prim.Native.Nat.{ℕ, _+_, _*_, _-_, _≤_, _<_}
+use native.Mathlib.Omega.{arith}
+use borrow.Author.Tests.{leb-true}
+use lib.Dec.{leb}
+use lib.ListN.{length, getD}
+use Rattle.keys.specs.Table.{from, Entry, zeros, key, field, table, entriesOf}
+use Rattle.keys.specs.Number.{afterMark, numberAt}
+use Rattle.keys.specs.Slot.{highestOf, count, index, slots, slotOf}
+use Rattle.keys.proofs.Slots.{digit-same, Low, index-below, Among, among, among-all, one-row}
+use Rattle.records.specs.Record.{inRange, keyIn, rowOf, keyOf}
+use Rattle.records.proofs.Taken.{Taken}
+use Rattle.records.proofs.Entries.{Ranged, each-ranged}
+
+both : (a b : Bool) → (a && b) ≡ true → (a ≡ true) × (b ≡ true)
+both true b e = (refl, e)
+both false b e = let z : _≡_ {A = ℕ} 0 1 = cc in let f : ⊥ = omega arith in absurd f
+
+pub within : (low high : ℕ) (r : List ℕ) (x : ℕ) → inRange (from low high) r x ≡ true → (low ≤ x) × (x ≤ high)
+unfolding inRange
+within low high r x e =
+    let b = both (leb low x) (leb x high) e in
+    (leb-true _ _ (b .0), leb-true _ _ (b .1))
+
+-- a byte of the key counts from 1 to its highest value
+byte : (r : List ℕ) (at high : ℕ) → inRange (from 1 high) r (numberAt r at 1) ≡ true → (1 ≤ getD r at 0) × (getD r at 0 ≤ high)
+unfolding numberAt
+byte r at high e =
+    let b = within 1 high r (getD r at 0 + 256 * 0) e in
+    (omega arith, omega arith)
+
+low : (at : ℕ) (es : List Entry) (r : List ℕ) → Ranged at es r → Low (highestOf es) (keyIn at es r)
+unfolding highestOf keyIn
+low at [] r g = tt
+low at (zeros n ∷ es) r g = low (at + n) es r g
+low at (key high ∷ es) r g = let b = byte r at high (g .0) in (omega arith, low (at + 1) es r (g .1))
+low at (field wide range ∷ es) r g = low (at + wide) es r (g .1)
+
+tells : (at : ℕ) (es : List Entry) (r s : List ℕ) → Ranged at es r → Ranged at es s
+    → index (highestOf es) (keyIn at es r) ≡ index (highestOf es) (keyIn at es s) → keyIn at es r ≡ keyIn at es s
+unfolding highestOf keyIn index
+tells at [] r s g h e = refl
+tells at (zeros n ∷ es) r s g h e = tells (at + n) es r s g h e
+tells at (key high ∷ es) r s g h e =
+    let b = byte r at high (g .0) in
+    let c = byte s at high (h .0) in
+    let i = index-below (highestOf es) (keyIn (at + 1) es r) (low (at + 1) es r (g .1)) in
+    let j = index-below (highestOf es) (keyIn (at + 1) es s) (low (at + 1) es s (h .1)) in
+    let d : getD r at 0 - 1 ≡ getD s at 0 - 1 = digit-same (getD r at 0 - 1) (getD s at 0 - 1) (count (highestOf es)) _ _ i j e in
+    let a : getD r at 0 ≡ getD s at 0 = omega arith in
+    let f : index (highestOf es) (keyIn (at + 1) es r) ≡ index (highestOf es) (keyIn (at + 1) es s) = omega (arith, e, ap (λ (x : ℕ). x * count (highestOf es)) d) in
+    let k = tells (at + 1) es r s (g .1) (h .1) f in
+    cc
+tells at (field wide range ∷ es) r s g h e = tells (at + wide) es r s (g .1) (h .1) e
+
+-- of a record that is taken
+module _ (r : List ℕ) (k : ℕ) (t : Taken r k) where
+  pub fields : Ranged afterMark (entriesOf (rowOf r)) r
+  fields = each-ranged (rowOf r) (t .row) r (t .ranged)
+
+  pub there : Among (rowOf r) k
+  unfolding keyOf
+  there = subst (Among (rowOf r)) (t .slot) (among (rowOf r) (t .row) (keyOf (rowOf r) r) (low afterMark (entriesOf (rowOf r)) r fields))
+
+  pub slot-below : k < slots
+  slot-below = among-all (rowOf r) k (t .row) there
+
+-- two records that are taken for one slot have one key
+pub same-row : (r s : List ℕ) (k : ℕ) → Taken r k → Taken s k → rowOf r ≡ rowOf s
+same-row r s k t u = one-row (rowOf r) (rowOf s) k (there r k t) (there s k u)
+
+at-row : (row : ℕ) → row < length table → (r s : List ℕ) → Ranged afterMark (entriesOf row) r → Ranged afterMark (entriesOf row) s
+    → slotOf row (keyOf row r) ≡ slotOf row (keyOf row s) → keyOf row r ≡ keyOf row s
+unfolding slotOf keyOf
+at-row row h r s g f e = tells afterMark (entriesOf row) r s g f (omega arith)
+
+pub same-key : (r s : List ℕ) (k : ℕ) → Taken r k → Taken s k → keyOf (rowOf r) r ≡ keyOf (rowOf s) s
+same-key r s k t u =
+    let m = same-row r s k t u in
+    let g : Ranged afterMark (entriesOf (rowOf r)) s = subst (λ (n : ℕ). Ranged afterMark (entriesOf n) s) (sym m) (fields s k u) in
+    let e : slotOf (rowOf r) (keyOf (rowOf r) s) ≡ k = subst (λ (n : ℕ). slotOf n (keyOf n s) ≡ k) (sym m) (u .slot) in
+    at-row (rowOf r) (t .row) r s (fields r k t) g (t .slot ∙ sym e) ∙ ap (λ (n : ℕ). keyOf n s) m

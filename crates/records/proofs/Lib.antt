@@ -1,0 +1,5 @@
+pub mod Entries
+pub mod Keys
+pub mod Marks
+pub mod Scan
+pub mod Taken

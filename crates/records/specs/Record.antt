@@ -1,0 +1,72 @@
+-- What posting finds in a record alone (01, "The records", "Refusal numbers"): refusals 1 to 4, or the slot of the record's key.
+-- Assumes nothing.
+use Prim.Native.Nat.{ℕ, zero, suc, _+_}
+use mathlib.Core.Bool.{Bool, cond, _&&_}
+use mathlib.Core.List.{List, [], _∷_}
+use lib.Dec.{eqb, ltb, leb}
+use lib.IntN.{pos, negℤ}
+use lib.ListN.{length, getD}
+use lib.Signed.{leZ}
+use Rattle.keys.specs.Table.{Range, from, unless, signed, Entry, zeros, key, field, Row, table, entriesOf}
+use Rattle.keys.specs.Number.{recordBytes, afterMark, numberAt, signedOf}
+use Rattle.keys.specs.Slot.{slotOf}
+use Rattle.records.specs.declared.Judged.{Judged}
+use Rattle.records.specs.declared.Judged.the-variants.{Wrong, Fill}
+
+-- the place of what is not found: past the record's last byte
+abbrev pub nowhere : ℕ
+nowhere = recordBytes
+
+-- the number x of a record r is in a range
+unfoldable pub inRange : Range → List ℕ → ℕ → Bool
+inRange (from low high) r x = leb low x && leb x high
+inRange (unless by high) r x = leb 0 x && leb x (cond (eqb (getD r by 0) 0) 0 high)
+inRange (signed below above) r x = leZ (negℤ (pos below)) (signedOf x) && leZ (signedOf x) (pos above)
+
+-- the offset of the first of n bytes that is not 0, or a later one
+unfoldable pub nonzeroAt : List ℕ → ℕ → ℕ → ℕ → ℕ
+nonzeroAt r at zero later = later
+nonzeroAt r at (suc n) later = cond (eqb (getD r at 0) 0) (nonzeroAt r (at + 1) n later) at
+
+-- the lowest offset of a zero byte that is not 0, among the entries from an offset on
+unfoldable pub nonzeroIn : ℕ → List Entry → List ℕ → ℕ
+nonzeroIn at [] r = nowhere
+nonzeroIn at (zeros n ∷ es) r = nonzeroAt r at n (nonzeroIn (at + n) es r)
+nonzeroIn at (key high ∷ es) r = nonzeroIn (at + 1) es r
+nonzeroIn at (field wide range ∷ es) r = nonzeroIn (at + wide) es r
+
+-- the offset of the first field outside its range, among the entries from an offset on
+unfoldable pub outsideIn : ℕ → List Entry → List ℕ → ℕ
+outsideIn at [] r = nowhere
+outsideIn at (zeros n ∷ es) r = outsideIn (at + n) es r
+outsideIn at (key high ∷ es) r = cond (inRange (from 1 high) r (numberAt r at 1)) (outsideIn (at + 1) es r) at
+outsideIn at (field wide range ∷ es) r = cond (inRange range r (numberAt r at wide)) (outsideIn (at + wide) es r) at
+
+-- the bytes of the key, among the entries from an offset on
+unfoldable pub keyIn : ℕ → List Entry → List ℕ → List ℕ
+keyIn at [] r = []
+keyIn at (zeros n ∷ es) r = keyIn (at + n) es r
+keyIn at (key high ∷ es) r = getD r at 0 ∷ keyIn (at + 1) es r
+keyIn at (field wide range ∷ es) r = keyIn (at + wide) es r
+
+-- the row with these letters, or how many rows there are where none has them; the row of a record, and its key by a row
+unfoldable pub rowIn : ℕ → List Row → ℕ
+rowIn letters [] = 0
+rowIn letters (row ∷ rows) = cond (eqb (row .letters) letters) 0 (suc (rowIn letters rows))
+
+unfoldable pub rowOf : List ℕ → ℕ
+rowOf r = rowIn (numberAt r 0 afterMark) table
+
+unfoldable pub keyOf : ℕ → List ℕ → List ℕ
+keyOf row r = keyIn afterMark (entriesOf row) r
+
+-- a zero byte that is not 0 is refusal 3 at its offset; else a field outside its range is refusal 4 at its offset; else the record fills its slot
+unfoldable pub verdict : ℕ → ℕ → ℕ → Judged
+verdict nonzero outside slot = cond (ltb nonzero nowhere) (Wrong 3 nonzero) (cond (ltb outside nowhere) (Wrong 4 outside) (Fill slot))
+
+-- a record by a row; and any bytes: not sixteen is refusal 1, and letters that no row has are refusal 2, both at place 0
+unfoldable pub judgedAs : ℕ → List ℕ → Judged
+judgedAs row r = verdict (nonzeroIn afterMark (entriesOf row) r) (outsideIn afterMark (entriesOf row) r) (slotOf row (keyOf row r))
+
+unfoldable pub judged : List ℕ → Judged
+judged r = cond (eqb (length r) recordBytes) (cond (ltb (rowOf r) (length table)) (judgedAs (rowOf r) r) (Wrong 2 0)) (Wrong 1 0)
