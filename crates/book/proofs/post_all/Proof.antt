@@ -1,0 +1,95 @@
+-- `book::post_all` meets its contract: what is posted and what is to come make what all of it makes. Assumes nothing.
+use Prim.Native.Nat.{ℕ, _≤_, _-_}
+use lib.ListN.{length, take, drop}
+use mathlib.Core.Path.{sym, ap, _∙_}
+use native.Mathlib.Omega.{arith}
+use borrow.Author.Needs.{needs}
+use Rattle.book.proofs.Runs.{Going, start, next-record, onwards, stopped, ended}
+use Rattle.book.proofs.post_all.Statement.{statement}
+use Rattle.book.proofs.post_all.Tie as tie
+
+abbrev Inv-loop : tie.InvT-loop
+Inv-loop book₀ run at₀ book at = (at ≤ length run) × Going book₀ run book at
+
+abbrev μ-loop : tie.MeasureT-loop
+μ-loop book₀ run at₀ book at = length run - at
+
+loop-holds : tie.Need-loop-holds Inv-loop μ-loop
+loop-holds c = (search needs, start _ _ (c .before .before .pre))
+
+record-end-requires : tie.Need-record-end-requires Inv-loop μ-loop
+record-end-requires c κs = search needs
+
+sub-post : tie.Need-sub-post Inv-loop μ-loop
+sub-post c = search needs
+
+part-post-start : tie.Need-part-post-start Inv-loop μ-loop
+part-post-start c = search needs
+
+part-post-end : tie.Need-part-post-end Inv-loop μ-loop
+part-post-end c = search needs
+
+post-requires : tie.Need-post-requires Inv-loop μ-loop
+post-requires c κs = c .before .before .before .before .loop .inv .1 .valid
+
+enum-known-answer : tie.Need-enum-known-answer Inv-loop μ-loop
+enum-known-answer c = search needs
+
+same-length : tie.Need-same-length Inv-loop μ-loop
+same-length c = search needs
+
+returns : tie.Need-returns Inv-loop μ-loop
+returns c =
+    let l = c .before .before .before .before .before .before .before .before .before .before in
+    let at = l .loop .at in
+    let run = l .before .before .before .args .run .now in
+    let more = c .before .before .before .before .before .before .before .before .before .loop-test .taken in
+    let p = c .before .before .before .before .before .post .ensures in
+    let its = ap (λ (n : ℕ). take (n - at) (drop at run)) (c .before .before .before .before .before .before .before .before .record-end .ensures) ∙ next-record run at (l .loop .inv .1 .place) more in
+    let answer = sym (p .0) ∙ c .before .answer .given .1 in
+    let s = stopped _ _ _ _ (l .loop .inv .1) more _ its _ _ answer in
+    (s .0, p .1 ∙ s .1)
+
+enum-told : tie.Need-enum-told Inv-loop μ-loop
+enum-told c = search needs
+
+loop-less : tie.Need-loop-less Inv-loop μ-loop
+loop-less c = search needs
+
+loop-again : tie.Need-loop-again Inv-loop μ-loop
+loop-again c =
+    let l = c .before .before .before .before .before .before .before .before .before in
+    let at = l .loop .at in
+    let run = l .before .before .before .args .run .now in
+    let more = c .before .before .before .before .before .before .before .before .loop-test .taken in
+    let p = c .before .before .before .before .post .ensures in
+    let its = ap (λ (n : ℕ). take (n - at) (drop at run)) (c .before .before .before .before .before .before .before .record-end .ensures) ∙ next-record run at (l .loop .inv .1 .place) more in
+    let answer = sym (p .0) ∙ c .enum-told .given .1 in
+    (omega arith, onwards _ _ _ _ (l .loop .inv .1) more _ its answer _ (p .1) _ (c .before .before .before .before .before .before .before .record-end .ensures))
+
+same-length-2 : tie.Need-same-length-2 Inv-loop μ-loop
+same-length-2 c = search needs
+
+returns-2 : tie.Need-returns-2 Inv-loop μ-loop
+returns-2 c = ended _ _ _ _ (c .before .loop .inv .1) (c .loop-test .left)
+
+pub post-all-spec : {M : Type 1} → statement M
+post-all-spec =
+    tie.close
+    (tie.spec
+    Inv-loop
+    μ-loop
+    loop-holds
+    record-end-requires
+    sub-post
+    part-post-start
+    part-post-end
+    post-requires
+    enum-known-answer
+    same-length
+    returns
+    enum-told
+    loop-less
+    loop-again
+    same-length-2
+    returns-2)

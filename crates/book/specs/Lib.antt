@@ -1,0 +1,3 @@
+pub mod Book
+pub mod Valid
+pub mod Run
