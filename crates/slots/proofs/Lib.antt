@@ -1,0 +1,4 @@
+pub mod Inside
+pub mod Ranges
+pub mod Rows
+pub mod Within

@@ -1,0 +1,21 @@
+-- `slots::field` meets its contract: it is the number in the book. Assumes nothing.
+use Rattle.slots.specs.Field.{fieldAt}
+use borrow.Author.Needs.{needs}
+use Rattle.slots.proofs.field.Statement.{statement}
+use Rattle.slots.proofs.field.Tie as tie
+
+mul-number : tie.Need-mul-number
+mul-number c = search needs
+
+add-number : tie.Need-add-number
+add-number c = search needs
+
+number-requires : tie.Need-number-requires
+number-requires c κs = search needs
+
+returns : tie.Need-returns
+unfolding fieldAt
+returns c = c .number .ensures .0
+
+pub field-spec : {M : Type 1} → statement M
+field-spec = tie.close (tie.spec mul-number add-number number-requires returns)

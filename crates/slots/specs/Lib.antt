@@ -1,0 +1,3 @@
+pub mod Entries
+pub mod Field
+pub mod Reads

@@ -1,0 +1,234 @@
+// What stands in a book, for the year: each field of each mark.
+use records::Field;
+ghost use mathlib.Core.Path.{_≡_};
+ghost use mathlib.Core.List.{[], _∷_};
+ghost use Prim.Native.Nat.{_+_, _≤_, _<_};
+ghost use Rattle.keys.specs.Table.{lines, categories, months, devices, yr, ln, tp, pe};
+ghost use Rattle.keys.specs.Number.{recordBytes, signedOf};
+ghost use Rattle.keys.specs.Slot.{slots, slotOf};
+ghost use Rattle.book.specs.Valid.{Valid};
+ghost use Rattle.slots.specs.Entries.{temperature};
+ghost use Rattle.slots.specs.Field.{placeOf, bytesOf, fieldAt, filledAt, seenAt};
+ghost use Rattle.slots.specs.Reads.{firstYearOf, firstMonthOf, systemOf, categoryOf, tableSolidsOf, massOf, shareOf, b0Of, conversionFactorOf, lineOf, headOf, temperatureOf, drainedOf, projectMethaneOf, baselineCo2Of, projectCo2Of, destroyedOf};
+
+// A field of a slot: nothing where the slot was never filled, and 0 is a value.
+pub enum Seen {
+    Nothing,
+    Value(u64),
+}
+
+// A month's temperature, in tenths of a degree.
+pub enum Warmth {
+    Unknown,
+    Tenths(i16),
+}
+
+// The numbers of a line.
+pub struct Line {
+    pub system: u64,
+    pub category: u64,
+    pub solids: u64,
+    pub mass: u64,
+    pub share: u64,
+    pub b0: u64,
+    pub conversion: u64,
+}
+
+pub fn first_year(book: &[u8]) -> Seen
+    requires { ⌜ Valid (now book) ⌝ }
+    ensures { λ r. ⌜ r ≡ firstYearOf (now (book .entry)) ⌝ }
+{
+    year_field(book, records::YR_FIRST_YEAR)
+}
+
+pub fn first_month(book: &[u8]) -> Seen
+    requires { ⌜ Valid (now book) ⌝ }
+    ensures { λ r. ⌜ r ≡ firstMonthOf (now (book .entry)) ⌝ }
+{
+    year_field(book, records::YR_FIRST_MONTH)
+}
+
+pub fn system(book: &[u8], line: usize) -> Seen
+    requires { ⌜ (Valid (now book)) × (line ≤ lines) ⌝ }
+    ensures { λ r. ⌜ r ≡ systemOf (now (book .entry)) line ⌝ }
+{
+    line_field(book, line, records::LN_SYSTEM)
+}
+
+pub fn category(book: &[u8], line: usize) -> Seen
+    requires { ⌜ (Valid (now book)) × (line ≤ lines) ⌝ }
+    ensures { λ r. ⌜ r ≡ categoryOf (now (book .entry)) line ⌝ }
+{
+    line_field(book, line, records::LN_CATEGORY)
+}
+
+pub fn table_solids(book: &[u8], line: usize) -> Seen
+    requires { ⌜ (Valid (now book)) × (line ≤ lines) ⌝ }
+    ensures { λ r. ⌜ r ≡ tableSolidsOf (now (book .entry)) line ⌝ }
+{
+    line_field(book, line, records::LN_TABLE_SOLIDS)
+}
+
+pub fn mass(book: &[u8], line: usize) -> Seen
+    requires { ⌜ (Valid (now book)) × (line ≤ lines) ⌝ }
+    ensures { λ r. ⌜ r ≡ massOf (now (book .entry)) line ⌝ }
+{
+    line_field(book, line, records::LN_MASS)
+}
+
+pub fn share(book: &[u8], line: usize) -> Seen
+    requires { ⌜ (Valid (now book)) × (line ≤ lines) ⌝ }
+    ensures { λ r. ⌜ r ≡ shareOf (now (book .entry)) line ⌝ }
+{
+    line_field(book, line, records::LN_SHARE)
+}
+
+pub fn b0(book: &[u8], line: usize) -> Seen
+    requires { ⌜ (Valid (now book)) × (line ≤ lines) ⌝ }
+    ensures { λ r. ⌜ r ≡ b0Of (now (book .entry)) line ⌝ }
+{
+    line_field(book, line, records::LN_B0)
+}
+
+pub fn conversion_factor(book: &[u8], line: usize) -> Seen
+    requires { ⌜ (Valid (now book)) × (line ≤ lines) ⌝ }
+    ensures { λ r. ⌜ r ≡ conversionFactorOf (now (book .entry)) line ⌝ }
+{
+    line_field(book, line, records::LN_CONVERSION_FACTOR)
+}
+
+// All numbers of a line at once, 0 where no LN stands.
+pub fn line_at(book: &[u8], line: usize) -> Line
+    requires { ⌜ (Valid (now book)) × (line ≤ lines) ⌝ }
+    ensures { λ r. ⌜ r ≡ lineOf (now (book .entry)) line ⌝ }
+{
+    Line {
+        system: line_number(book, line, records::LN_SYSTEM),
+        category: line_number(book, line, records::LN_CATEGORY),
+        solids: line_number(book, line, records::LN_TABLE_SOLIDS),
+        mass: line_number(book, line, records::LN_MASS),
+        share: line_number(book, line, records::LN_SHARE),
+        b0: line_number(book, line, records::LN_B0),
+        conversion: line_number(book, line, records::LN_CONVERSION_FACTOR),
+    }
+}
+
+pub fn head(book: &[u8], category: usize, month: usize) -> Seen
+    requires { ⌜ (Valid (now book)) × (category ≤ categories) × (month ≤ months) ⌝ }
+    ensures { λ r. ⌜ r ≡ headOf (now (book .entry)) category month ⌝ }
+{
+    read(book, keys::head_slot(category, month), records::HD_HEAD)
+}
+
+pub fn temperature(book: &[u8], month: usize) -> Warmth
+    requires { ⌜ (Valid (now book)) × (month ≤ months) ⌝ }
+    ensures { λ r. ⌜ r ≡ temperatureOf (now (book .entry)) month ⌝ }
+{
+    let slot = keys::temperature_slot(month);
+    if filled(book, slot) {
+        return Warmth::Tenths(tenths(book, slot));
+    }
+    Warmth::Unknown
+}
+
+pub fn drained(book: &[u8], line: usize, month: usize) -> bool
+    requires { ⌜ (Valid (now book)) × (line ≤ lines) × (month ≤ months) ⌝ }
+    ensures { λ r. ⌜ r ≡ drainedOf (now (book .entry)) line month ⌝ }
+{
+    filled(book, keys::drain_slot(line, month))
+}
+
+pub fn project_methane(book: &[u8], month: usize) -> Seen
+    requires { ⌜ (Valid (now book)) × (month ≤ months) ⌝ }
+    ensures { λ r. ⌜ r ≡ projectMethaneOf (now (book .entry)) month ⌝ }
+{
+    project_field(book, month, records::PE_PROJECT_METHANE)
+}
+
+pub fn baseline_co2(book: &[u8], month: usize) -> Seen
+    requires { ⌜ (Valid (now book)) × (month ≤ months) ⌝ }
+    ensures { λ r. ⌜ r ≡ baselineCo2Of (now (book .entry)) month ⌝ }
+{
+    project_field(book, month, records::PE_BASELINE_CO2)
+}
+
+pub fn project_co2(book: &[u8], month: usize) -> Seen
+    requires { ⌜ (Valid (now book)) × (month ≤ months) ⌝ }
+    ensures { λ r. ⌜ r ≡ projectCo2Of (now (book .entry)) month ⌝ }
+{
+    project_field(book, month, records::PE_PROJECT_CO2)
+}
+
+pub fn destroyed(book: &[u8], month: usize, device: usize) -> Seen
+    requires { ⌜ (Valid (now book)) × (month ≤ months) × (device ≤ devices) ⌝ }
+    ensures { λ r. ⌜ r ≡ destroyedOf (now (book .entry)) month device ⌝ }
+{
+    read(book, keys::meter_slot(month, device), records::MT_DESTROYED)
+}
+
+// One field of the slot of a mark and its key.
+fn year_field(book: &[u8], entry: Field) -> Seen
+    requires { ⌜ (Valid (now book)) × (entry .0 + entry .1 ≤ recordBytes) × (entry .1 ≤ 8) ⌝ }
+    ensures { λ r. ⌜ r ≡ seenAt (now (book .entry)) (slotOf yr []) (entry .0) (entry .1) ⌝ }
+{
+    read(book, keys::year_slot(), entry)
+}
+
+fn line_field(book: &[u8], line: usize, entry: Field) -> Seen
+    requires { ⌜ (Valid (now book)) × (line ≤ lines) × (entry .0 + entry .1 ≤ recordBytes) × (entry .1 ≤ 8) ⌝ }
+    ensures { λ r. ⌜ r ≡ seenAt (now (book .entry)) (slotOf ln (line ∷ [])) (entry .0) (entry .1) ⌝ }
+{
+    read(book, keys::line_slot(line), entry)
+}
+
+fn line_number(book: &[u8], line: usize, entry: Field) -> u64
+    requires { ⌜ (Valid (now book)) × (line ≤ lines) × (entry .0 + entry .1 ≤ recordBytes) × (entry .1 ≤ 8) ⌝ }
+    ensures { λ r. ⌜ r ≡ fieldAt (now (book .entry)) (slotOf ln (line ∷ [])) (entry .0) (entry .1) ⌝ }
+{
+    field(book, keys::line_slot(line), entry)
+}
+
+fn project_field(book: &[u8], month: usize, entry: Field) -> Seen
+    requires { ⌜ (Valid (now book)) × (month ≤ months) × (entry .0 + entry .1 ≤ recordBytes) × (entry .1 ≤ 8) ⌝ }
+    ensures { λ r. ⌜ r ≡ seenAt (now (book .entry)) (slotOf pe (month ∷ [])) (entry .0) (entry .1) ⌝ }
+{
+    read(book, keys::project_slot(month), entry)
+}
+
+// One field of one slot.
+pub fn read(book: &[u8], slot: usize, entry: Field) -> Seen
+    requires { ⌜ (Valid (now book)) × (slot < slots) × (entry .0 + entry .1 ≤ recordBytes) × (entry .1 ≤ 8) ⌝ }
+    ensures { λ r. ⌜ r ≡ seenAt (now (book .entry)) slot (entry .0) (entry .1) ⌝ }
+{
+    if filled(book, slot) {
+        return Seen::Value(field(book, slot, entry));
+    }
+    Seen::Nothing
+}
+
+pub fn filled(book: &[u8], slot: usize) -> bool
+    requires { ⌜ (Valid (now book)) × (slot < slots) ⌝ }
+    ensures { λ r. ⌜ r ≡ filledAt (now (book .entry)) slot ⌝ }
+{
+    book[slot * keys::RECORD] != 0
+}
+
+// The number in a slot, filled or not: 0 where it is empty.
+pub fn field(book: &[u8], slot: usize, entry: Field) -> u64
+    requires { ⌜ (Valid (now book)) × (slot < slots) × (entry .0 + entry .1 ≤ recordBytes) × (entry .1 ≤ 8) ⌝ }
+    ensures { λ r. ⌜ r ≡ fieldAt (now (book .entry)) slot (entry .0) (entry .1) ⌝ }
+{
+    keys::number(book, slot * keys::RECORD + entry.0, entry.1)
+}
+
+// A temperature's slot as a signed number, filled or not: 0 where it is empty.
+pub fn tenths(book: &[u8], slot: usize) -> i16
+    requires { ⌜ (Valid (now book)) × (slot < slots) ⌝ }
+    ensures { λ r. ⌜ r ≡ signedOf (fieldAt (now (book .entry)) slot (placeOf tp temperature) (bytesOf tp temperature)) ⌝ }
+{
+    keys::signed(keys::number(
+        book,
+        slot * keys::RECORD + records::TP_TEMPERATURE_AT,
+        records::TP_TEMPERATURE_BYTES,
+    ))
+}
