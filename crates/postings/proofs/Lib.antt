@@ -1,0 +1,6 @@
+pub mod Again
+pub mod Determined
+pub mod Keys
+pub mod Made
+pub mod Own
+pub mod Read

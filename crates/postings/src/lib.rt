@@ -1,0 +1,1 @@
+// What postings do to a book, as theorems, in proofs/; their words are in specs/. There is no code.
