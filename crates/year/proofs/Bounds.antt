@@ -1,0 +1,265 @@
+-- How large a year's figures can be, from the ranges of what they are made of: each product is at most that of the ranges' ends.
+-- Assumes nothing.
+use Prim.Native.Nat.{ℕ, zero, suc, _+_, _*_, _-_, _^_, _≤_, _<_}
+use mathlib.Core.Bool.{Bool, true, false, cond}
+use mathlib.Core.List.{List}
+use mathlib.Core.Path.{subst, _≡_, _∙_}
+use native.Mathlib.Nat.{mul-le-mul, suc-mul, not-suc-le-zero}
+use native.Mathlib.Omega.{arith}
+use lib.Dec.{eqb}
+use lib.ListN.{getD}
+use Rattle.laws.proofs.Counting.{sum-most}
+use Rattle.units.specs.Grams.{potential, b0RuleOf}
+use Rattle.units.specs.declared.solids.Solids.{Solids}
+use Rattle.calendar.specs.Days.{monthsInYear}
+use Rattle.lagoon.proofs.Conserved.{conserved, entered-at-most}
+use Rattle.lagoon.specs.Asks.{enteredMost}
+use Rattle.lagoon.specs.Month.{million, emptyOf}
+use Rattle.lagoon.specs.Run.{runOf, after, yearOf, monthsOf}
+use Rattle.lagoon.specs.declared.Totals.{Totals}
+use Rattle.keys.specs.Table.{lines, categories, months, devices}
+use Rattle.book.specs.Valid.{Valid}
+use Rattle.slots.specs.Reads.{systemOf, lineOf, drainedOf, destroyedOf}
+use Rattle.slots.specs.declared.Line.{Line}
+use Rattle.slots.specs.declared.Seen.{Seen}
+use Rattle.slots.specs.declared.Seen.the-variants.{Nothing, Value}
+use Rattle.year.specs.Asks.{InPeriod, Holds, ArraysFit, LineRanged, headsMost, SumsFit, OperatorFits}
+use Rattle.year.specs.Credit.{destroyedAt, operatorAt, together, operatorOver}
+use Rattle.year.specs.Lines.{anaerobic, anaerobicOf, headsOf, dailyOf, daysInYear, convertedOf, otherOf, bySystem, lineIn, sumsOver, all}
+use Rattle.year.specs.Series.{amountOf, monthsBefore, factorAt, headAt, enteredAt, monthAt}
+use Rattle.year.specs.declared.credit.Operator.{Operator}
+use Rattle.year.specs.declared.lines.Sums.{Sums}
+use Rattle.year.proofs.Ranges.{factor-most, line-ranged, head-most, entry-most, methane-most, baseline-most, project-most, destroyed-most}
+
+-- the most that any figure of one line in a year can be
+abbrev pub lineMost : ℕ
+lineMost = 200000000000000
+
+pub record Most (k : ℕ) (sums : Sums) : Type 0 where
+  pub entered : sums .entered .0 ≤ k
+  pub degraded : sums .degraded .0 ≤ k
+  pub removed : sums .removed .0 ≤ k
+  pub carried : sums .carried .0 ≤ k
+  pub baseline : sums .baseline .0 ≤ k
+
+b0-most : (degraded : Solids) (b0 : ℕ) → degraded .0 ≤ 12000000000000 → b0 ≤ 100 → b0RuleOf degraded b0 potential .0 ≤ lineMost
+unfolding b0RuleOf
+b0-most degraded b0 few small = omega (arith, mul-le-mul few small)
+
+-- another line's products, one factor after the other
+module _ (heads : ℕ) (line : Line) (few : heads ≤ headsMost) (r : LineRanged line) where
+  pub product-one : heads * line .solids ≤ 2400000000
+  product-one = mul-le-mul few (r .solids)
+
+  pub product-two : heads * line .solids * line .mass ≤ 48000000000000
+  product-two = mul-le-mul product-one (r .mass)
+
+  pub product-three : heads * line .solids * line .mass * line .share ≤ 480000000000000000
+  product-three = mul-le-mul product-two (r .share)
+
+  pub daily-most : dailyOf heads line * daysInYear ≤ 1460000000000
+  daily-most = omega (arith, product-three)
+
+  pub product-year : dailyOf heads line * daysInYear * line .conversion ≤ 14600000000000000
+  product-year = mul-le-mul daily-most (r .conversion)
+
+  pub converted-most : convertedOf heads line .0 ≤ 1460000000000
+  unfolding convertedOf
+  converted-most = omega (arith, product-year)
+
+-- an anaerobic line's year
+pub record YearMost (totals : Totals) : Type 0 where
+  pub entered : totals .entered .0 ≤ 12000000000000
+  pub degraded : totals .degraded .0 ≤ 12000000000000
+  pub removed : totals .removed .0 ≤ 12000000000000
+  pub carried : totals .standing .0 .0 ≤ 12000000000000
+
+module _ (book : List ℕ) (v : Valid book) (line : ℕ) (there : line ≤ lines) where
+  month-factor : (m : ℕ) → monthAt book line m .factor ≤ million
+  unfolding monthAt
+  month-factor m = factor-most book m
+
+  month-entered : (m : ℕ) → m ≤ months → monthAt book line m .entered .0 ≤ enteredMost
+  unfolding monthAt
+  month-entered m within = entry-most book v line m there within
+
+  pub year-most : (year : ℕ) → InPeriod year → YearMost (yearOf (monthAt book line) year)
+  unfolding yearOf
+  year-most year period =
+      let k = monthsBefore year in
+      let run = monthAt book line in
+      let standing = runOf run k .standing in
+      let kept = conserved emptyOf run k (λ m low high. month-factor m) in
+      let kept-on = conserved standing (after k run) 12 (λ m low high. month-factor (k + m)) in
+      let came = entered-at-most emptyOf run enteredMost k (λ m low high. month-entered m (omega (arith, period .high))) in
+      let came-on = entered-at-most standing (after k run) enteredMost 12 (λ m low high. month-entered (k + m) (omega (arith, period .high))) in
+      let high = period .high in
+      record { entered = omega arith; degraded = omega arith; removed = omega arith; carried = omega arith }
+
+  -- the arrays that the code fills from the book
+  module _ (n : ℕ) (within : n ≤ months) {entered factors : List ℕ} {drained : List Bool}
+      (entered-held : Holds ℕ 0 n (λ m. enteredAt book line m .0) entered) (factors-held : Holds ℕ 0 n (factorAt book) factors)
+      (drained-held : Holds Bool false n (drainedOf book line) drained) where
+    entry-at : (i : ℕ) → i < n → getD entered i 0 ≤ enteredMost
+    entry-at i below =
+        let e : i + 1 - 1 ≡ i = omega arith in
+        subst (λ (k : ℕ). getD entered k 0 ≤ enteredMost) e
+        (rw (entered-held .each (i + 1) (omega arith) (omega arith)) (entry-most book v line (i + 1) there (omega arith)))
+
+    factor-at : (i : ℕ) → i < n → getD factors i 0 ≤ million
+    factor-at i below =
+        let e : i + 1 - 1 ≡ i = omega arith in
+        subst (λ (k : ℕ). getD factors k 0 ≤ million) e
+        (rw (factors-held .each (i + 1) (omega arith) (omega arith)) (factor-most book (i + 1)))
+
+    pub arrays-fit : ArraysFit n entered factors drained
+    arrays-fit =
+        record {
+          within = within;
+          entered-long = entered-held .long;
+          factors-long = factors-held .long;
+          drained-long = drained-held .long;
+          entry = entry-at;
+          factor = factor-at;
+        }
+
+    pub array-month : (m : ℕ) → 1 ≤ m → m ≤ n → monthsOf entered factors drained m ≡ monthAt book line m
+    unfolding monthAt
+    array-month m low high = rw (entered-held .each m low high, factors-held .each m low high, drained-held .each m low high)
+
+by-most : (seen : Seen) (lagoon other : Sums) → Most lineMost lagoon → Most lineMost other → Most lineMost (bySystem seen lagoon other)
+by-most Nothing lagoon other l o = record { entered = omega arith; degraded = omega arith; removed = omega arith; carried = omega arith; baseline = omega arith }
+by-most (Value system) lagoon other l o = go (eqb system anaerobic)
+  where
+    go : (b : Bool) → Most lineMost (cond b lagoon other)
+    go true = l
+    go false = o
+
+module _ (book : List ℕ) (v : Valid book) (year : ℕ) (period : InPeriod year) where
+  pub heads-most : (category : ℕ) → category ≤ categories → headsOf book year category ≤ headsMost
+  unfolding headsOf
+  heads-most category there =
+      sum-most (λ m. headAt book category (monthsBefore year + m)) 100000 monthsInYear
+      (λ m low high. head-most book v category (monthsBefore year + m) there (omega (arith, period .high)))
+
+  pub line-most : (line : ℕ) → line ≤ lines → Most lineMost (lineIn book year line)
+  unfolding lineIn
+  line-most line there =
+      let r = line-ranged book v line there in
+      let y = year-most book v line there year period in
+      let numbers = lineOf book line in
+      let heads = headsOf book year (numbers .category) in
+      let c = converted-most heads numbers (heads-most (numbers .category) (r .category)) r in
+      by-most (systemOf book line) (anaerobicOf (yearOf (monthAt book line) year) (numbers .b0)) (otherOf heads numbers)
+      (record {
+        entered = omega (arith, y .entered);
+        degraded = omega (arith, y .degraded);
+        removed = omega (arith, y .removed);
+        carried = omega (arith, y .carried);
+        baseline = b0-most (yearOf (monthAt book line) year .degraded) (numbers .b0) (y .degraded) (r .b0);
+      })
+      (record {
+        entered = omega arith;
+        degraded = omega arith;
+        removed = omega arith;
+        carried = omega arith;
+        baseline = b0-most (convertedOf heads numbers) (numbers .b0) (omega (arith, c)) (r .b0);
+      })
+
+  pub sums-most : (n : ℕ) → n ≤ lines → Most (n * lineMost) (sumsOver (lineIn book year) all n)
+  unfolding sumsOver
+  sums-most zero h = record { entered = omega arith; degraded = omega arith; removed = omega arith; carried = omega arith; baseline = omega arith }
+  sums-most (suc n) h =
+      let before = sums-most n (omega arith) in
+      let more = line-most (suc n) h in
+      let m = suc-mul n lineMost in
+      record {
+        entered = omega (arith, before .entered, more .entered, m);
+        degraded = omega (arith, before .degraded, more .degraded, m);
+        removed = omega (arith, before .removed, more .removed, m);
+        carried = omega (arith, before .carried, more .carried, m);
+        baseline = omega (arith, before .baseline, more .baseline, m);
+      }
+
+  pub sums-fit : (n : ℕ) → n ≤ lines → SumsFit (sumsOver (lineIn book year) all n)
+  sums-fit n h =
+      let s = sums-most n h in
+      record {
+        entered = omega (arith, s .entered);
+        degraded = omega (arith, s .degraded);
+        removed = omega (arith, s .removed);
+        carried = omega (arith, s .carried);
+        baseline = omega (arith, s .baseline);
+      }
+
+  pub line-fits : (line : ℕ) → line ≤ lines → SumsFit (lineIn book year line)
+  line-fits line h =
+      let s = line-most line h in
+      record {
+        entered = omega (arith, s .entered);
+        degraded = omega (arith, s .degraded);
+        removed = omega (arith, s .removed);
+        carried = omega (arith, s .carried);
+        baseline = omega (arith, s .baseline);
+      }
+
+-- what the operator entered
+abbrev pub kilogramsMost : ℕ
+kilogramsMost = 4294967295000
+
+abbrev pub destroyedMost : ℕ
+destroyedMost = 4000000000000
+
+pub record OperatorMost (n : ℕ) (operator : Operator) : Type 0 where
+  pub methane : operator .methane .0 ≤ n * kilogramsMost
+  pub baseline : operator .baseline .0 ≤ n * kilogramsMost
+  pub project : operator .project .0 ≤ n * kilogramsMost
+  pub destroyed : operator .destroyed .0 ≤ n * destroyedMost
+
+pub operator-fits : (n : ℕ) (operator : Operator) → n ≤ monthsInYear → OperatorMost n operator → OperatorFits operator
+operator-fits n operator h o =
+    record {
+      methane = omega (arith, o .methane);
+      baseline = omega (arith, o .baseline);
+      project = omega (arith, o .project);
+      metered = omega (arith, o .destroyed);
+    }
+
+module _ (book : List ℕ) (v : Valid book) where
+  pub month-most : (m : ℕ) → m ≤ months → OperatorMost 1 (operatorAt book m)
+  unfolding operatorAt destroyedAt
+  month-most m h =
+      record {
+        methane = omega (arith, methane-most book v m h);
+        baseline = omega (arith, baseline-most book v m h);
+        project = omega (arith, project-most book v m h);
+        destroyed =
+            omega (
+              arith,
+              sum-most (λ device. amountOf (destroyedOf book m device)) (10 ^ 12) devices
+                  (λ device low high. destroyed-most book v m device h high),
+            );
+      }
+
+  pub operator-most : (year : ℕ) → InPeriod year → (n : ℕ) → n ≤ monthsInYear → OperatorMost n (operatorOver (λ m. operatorAt book (monthsBefore year + m)) n)
+  unfolding operatorOver
+  operator-most year period zero h = record { methane = omega arith; baseline = omega arith; project = omega arith; destroyed = omega arith }
+  operator-most year period (suc n) h =
+      let before = operator-most year period n (omega arith) in
+      let more = month-most (monthsBefore year + suc n) (omega (arith, period .high)) in
+      record {
+        methane = omega (arith, before .methane, more .methane);
+        baseline = omega (arith, before .baseline, more .baseline);
+        project = omega (arith, before .project, more .project);
+        destroyed = omega (arith, before .destroyed, more .destroyed);
+      }
+
+pub one-month-more :
+    (each : ℕ → Operator) (month : ℕ) {operator one next : Operator} → 1 ≤ month → operator ≡ operatorOver each (month - 1) → one ≡ each month →
+    next ≡ together operator one → next ≡ operatorOver each (month + 1 - 1)
+unfolding operatorOver
+one-month-more each zero low is read more = absurd (not-suc-le-zero low)
+one-month-more each (suc k) low is read more =
+    let earlier : suc k - 1 ≡ k = omega arith in
+    let later : suc k + 1 - 1 ≡ suc k = omega arith in
+    more ∙ rw (later, is, read, earlier)

@@ -1,0 +1,11 @@
+pub mod Ranges
+pub mod Arrays
+pub mod SameMonths
+pub mod Bounds
+pub mod BySystem
+pub mod Lacking
+pub mod Signs
+pub mod Never
+pub mod Answers
+pub mod Depends
+pub mod Parts

@@ -1,0 +1,20 @@
+-- `lines::head` meets its contract: the read and its amount.
+-- Assumes nothing.
+use mathlib.Core.Path.{ap, _∙_}
+use borrow.Author.Needs.{needs}
+use Rattle.year.specs.Series.{amountOf, headAt}
+use Rattle.year.proofs.lines.head.Statement.{statement}
+use Rattle.year.proofs.lines.head.Tie as tie
+
+head-requires : tie.Need-head-requires
+head-requires c κs = search needs
+
+amount-requires : tie.Need-amount-requires
+amount-requires c κs = search needs
+
+returns : tie.Need-returns
+unfolding headAt
+returns c = c .amount .ensures ∙ ap amountOf (c .before .head .ensures)
+
+pub head-spec : {M : Type 1} → statement M
+head-spec = tie.close (tie.spec head-requires amount-requires returns)

@@ -1,0 +1,61 @@
+-- The year's answer: refusals 9, 8, 7 and 12 in this order, or the figures (01, "Refusal numbers", "The year").
+use Prim.Native.Nat.{ℕ, _^_}
+use mathlib.Core.Bool.{Bool, false, cond, _||_}
+use mathlib.Core.List.{List, [], _∷_}
+use lib.Dec.{ltb, leb}
+use lib.IntN.{natAbs}
+use Rattle.laws.specs.Counting.{some}
+use Rattle.keys.specs.Table.{categories}
+use Rattle.year.specs.Complete.{completeOf}
+use Rattle.year.specs.Credit.{operatorOf, modelledOf, meteredOf, totalOf, figuresOf}
+use Rattle.year.specs.Lines.{headsOf, all, sumsOf}
+use Rattle.year.specs.Shares.{overOf}
+use Rattle.year.specs.declared.Answer.{Answer}
+use Rattle.year.specs.declared.Answer.the-variants.{Stated, Refused}
+use Rattle.year.specs.declared.complete.Completeness.{Completeness}
+use Rattle.year.specs.declared.complete.Completeness.the-variants.{Complete, Lacking}
+use Rattle.year.specs.declared.credit.Operator.{Operator}
+use Rattle.year.specs.declared.lines.Sums.{Sums}
+
+-- the years of the crediting period
+abbrev pub firstYear : ℕ
+firstYear = 1
+
+abbrev pub lastYear : ℕ
+lastYear = 10
+
+-- the sums of a year in grams, as whole numbers without an end; the modelled figure and the total by how far they are from 0
+abbrev pub gramsBy : Sums → Operator → List ℕ
+gramsBy sums operator =
+    sums .entered .0 ∷ sums .degraded .0 ∷ sums .removed .0 ∷ sums .carried .0 ∷ sums .baseline .0
+    ∷ operator .methane .0 ∷ operator .baseline .0 ∷ operator .project .0 ∷ operator .destroyed .0 ∷ meteredOf operator .0
+    ∷ natAbs (modelledOf (sums .baseline) operator) ∷ natAbs (totalOf (sums .baseline) operator) ∷ []
+
+-- a number of a list is above the most
+unfoldable pub anyAbove : ℕ → List ℕ → Bool
+anyAbove most [] = false
+anyAbove most (number ∷ numbers) = ltb most number || anyAbove most numbers
+
+-- refusal 12: a sum passes 2^63; the sums of heads are sums of the year too
+abbrev pub sumLimit : ℕ
+sumLimit = 2 ^ 63
+
+unfoldable pub passes : List ℕ → ℕ → Bool
+passes book year =
+    anyAbove sumLimit (gramsBy (sumsOf book year all) (operatorOf book year))
+    || some categories (λ category. ltb sumLimit (headsOf book year category))
+
+-- refusals 7 and 12, or the figures
+unfoldable pub wholeYear : List ℕ → ℕ → Answer
+wholeYear book year =
+    cond (leb (overOf book) categories) (Refused 7 (overOf book))
+    (cond (passes book year) (Refused 12 0) (Stated (figuresOf book year)))
+
+-- refusal 8, or what follows
+abbrev pub byComplete : List ℕ → ℕ → Completeness → Answer
+byComplete book year (Lacking place) = Refused 8 place
+byComplete book year Complete = wholeYear book year
+
+-- refusal 9, or what follows
+unfoldable pub answerOf : List ℕ → ℕ → Answer
+answerOf book year = cond (ltb year firstYear || ltb lastYear year) (Refused 9 0) (byComplete book year (completeOf book year))

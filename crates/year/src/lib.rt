@@ -1,0 +1,99 @@
+// A year of a book: what it lacks, its lines and its credit.
+mod complete;
+mod credit;
+mod lines;
+mod series;
+mod shares;
+
+ghost use mathlib.Core.Path.{_≡_};
+ghost use Rattle.book.specs.Valid.{Valid};
+ghost use Rattle.year.specs.Credit.{figuresOf};
+ghost use Rattle.year.specs.Answer.{answerOf};
+ghost use Rattle.year.specs.Asks.{InPeriod};
+use complete::Completeness;
+use units::Co2e;
+use units::Solids;
+
+// The years of the crediting period.
+const FIRST_YEAR: u64 = 1;
+
+const LAST_YEAR: u64 = 10;
+
+// The refusals of a year. A sum that passes 2^63 would be refused 12; no book reaches it.
+const NO_SUCH_YEAR: u8 = 9;
+
+const LACKING: u8 = 8;
+
+const OVER_SHARED: u8 = 7;
+
+// The year's figures: solids over the anaerobic lines, with what is carried past the year's end; carbon
+// dioxide equivalent, where project is project methane; and tonnes.
+pub struct Figures {
+    pub entered: Solids,
+    pub degraded: Solids,
+    pub removed: Solids,
+    pub carried: Solids,
+    pub baseline: Co2e,
+    pub project: Co2e,
+    pub metered: Co2e,
+    pub net: i64,
+    pub credited: u64,
+}
+
+// The figures, or a refusal's number and place.
+pub enum Answer {
+    Stated(Figures),
+    Refused(u8, u64),
+}
+
+// A year is refused as no year of the period, for a record that it lacks, before any sum is taken, or
+// for a category's shares; else its figures are stated.
+pub fn year(book: &[u8], year: u64) -> Answer
+    requires { ⌜ Valid (now book) ⌝ }
+    ensures { λ r. ⌜ r ≡ answerOf (now (book .entry)) year ⌝ }
+{
+    if year < FIRST_YEAR {
+        return Answer::Refused(NO_SUCH_YEAR, 0);
+    }
+    if LAST_YEAR < year {
+        return Answer::Refused(NO_SUCH_YEAR, 0);
+    }
+    let counted = year as usize;
+    let found = complete::complete(book, counted);
+    let Completeness::Complete = found else {
+        return Answer::Refused(LACKING, found.place());
+    };
+    let over = shares::over_shared(book);
+    if over <= keys::CATEGORIES {
+        return Answer::Refused(OVER_SHARED, over as u64);
+    }
+    Answer::Stated(figures_of(book, counted))
+}
+
+fn figures_of(book: &[u8], year: usize) -> Figures
+    requires { ⌜ Valid (now book) ⌝ }
+    requires { ⌜ InPeriod year ⌝ }
+    ensures { λ r. ⌜ r ≡ figuresOf (now (book .entry)) year ⌝ }
+{
+    let sums = lines::sums_of(book, year);
+    let operator = credit::operator_of(book, year);
+    let entered = sums.entered;
+    let degraded = sums.degraded;
+    let removed = sums.removed;
+    let carried = sums.carried;
+    let baseline = sums.baseline;
+    let project = operator.methane;
+    let metered = operator.metered();
+    let net = units::net(credit::total(baseline, operator));
+    Figures {
+        entered,
+        degraded,
+        removed,
+        carried,
+        baseline,
+        project,
+        metered,
+        net,
+        credited: units::credited(net),
+    }
+}
