@@ -1,0 +1,58 @@
+-- The line's four texts are laid one after the other. Assumes nothing.
+use native.Mathlib.Omega.{arith}
+use borrow.Author.Needs.{needs}
+use Rattle.text.specs.Lines.{gramsLine}
+use Rattle.text.proofs.Laying.{joined}
+use Rattle.text.proofs.Lengths.{grams-length}
+use Rattle.text.proofs.lay_grams_line.Statement.{statement}
+use Rattle.text.proofs.lay_grams_line.Tie as tie
+
+slice-aggregate-lay-co2e : tie.Need-slice-aggregate-lay-co2e
+slice-aggregate-lay-co2e c = search needs
+
+lay-co2e-requires : tie.Need-lay-co2e-requires
+lay-co2e-requires c κs = omega (arith, grams-length (c .before .before .before .args .figures))
+
+slice-aggregate-lay-co2e-2 : tie.Need-slice-aggregate-lay-co2e-2
+slice-aggregate-lay-co2e-2 c = search needs
+
+lay-co2e-requires-2 : tie.Need-lay-co2e-requires-2
+lay-co2e-requires-2 c κs = omega (arith, grams-length (c .before .before .before .before .before .before .before .before .args .figures))
+
+slice-aggregate-lay-co2e-3 : tie.Need-slice-aggregate-lay-co2e-3
+slice-aggregate-lay-co2e-3 c = search needs
+
+lay-co2e-requires-3 : tie.Need-lay-co2e-requires-3
+lay-co2e-requires-3 c κs = omega (arith, grams-length (c .before .before .before .before .before .before .before .before .before .before .before .before .before .args .figures))
+
+slice-aggregate-lay-word : tie.Need-slice-aggregate-lay-word
+slice-aggregate-lay-word c = search needs
+
+lay-word-requires : tie.Need-lay-word-requires
+lay-word-requires c κs = omega (arith, grams-length (c .before .before .before .before .before .before .before .before .before .before .before .before .before .before .before .before .before .before .args .figures))
+
+same-length : tie.Need-same-length
+same-length c = search needs
+
+returns : tie.Need-returns
+unfolding gramsLine
+returns c =
+    joined
+    (joined (joined (c .before .before .before .before .before .before .before .before .before .before .before .before .before .before .before .before .before .lay-co2e .ensures) (c .before .before .before .before .before .before .before .before .before .before .before .before .lay-co2e2 .ensures) (omega arith)) (c .before .before .before .before .before .before .before .lay-co2e3 .ensures) (omega arith))
+    (c .before .before .lay-word .ensures)
+    (omega arith)
+
+pub lay-grams-line-spec : {M : Type 1} → statement M
+lay-grams-line-spec =
+    tie.close
+    (tie.spec
+    slice-aggregate-lay-co2e
+    lay-co2e-requires
+    slice-aggregate-lay-co2e-2
+    lay-co2e-requires-2
+    slice-aggregate-lay-co2e-3
+    lay-co2e-requires-3
+    slice-aggregate-lay-word
+    lay-word-requires
+    same-length
+    returns)

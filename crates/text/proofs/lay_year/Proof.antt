@@ -1,0 +1,42 @@
+-- The four lines are laid one after the other. Assumes nothing.
+use native.Mathlib.Omega.{arith}
+use borrow.Author.Needs.{needs}
+use Rattle.text.specs.Lines.{yearLines}
+use Rattle.text.proofs.Laying.{joined}
+use Rattle.text.proofs.Lengths.{lines-length}
+use Rattle.text.proofs.lay_year.Statement.{statement}
+use Rattle.text.proofs.lay_year.Tie as tie
+
+lay-year-line-requires : tie.Need-lay-year-line-requires
+lay-year-line-requires c κs = let s = c .before .before in omega (arith, lines-length (s .args .year) (s .args .figures))
+
+lay-solids-line-requires : tie.Need-lay-solids-line-requires
+lay-solids-line-requires c κs = let s = c .before .before .before .before .before .before in omega (arith, lines-length (s .args .year) (s .args .figures))
+
+lay-grams-line-requires : tie.Need-lay-grams-line-requires
+lay-grams-line-requires c κs = let s = c .before .before .before .before .before .before .before .before .before .before in omega (arith, lines-length (s .args .year) (s .args .figures))
+
+lay-tonnes-line-requires : tie.Need-lay-tonnes-line-requires
+lay-tonnes-line-requires c κs = let s = c .before .before .before .before .before .before .before .before .before .before .before .before .before .before in omega (arith, lines-length (s .args .year) (s .args .figures))
+
+same-length : tie.Need-same-length
+same-length c = search needs
+
+returns : tie.Need-returns
+unfolding yearLines
+returns c =
+    joined
+    (joined (joined (c .before .before .before .before .before .before .before .before .before .before .before .before .before .before .lay-year-line .ensures) (c .before .before .before .before .before .before .before .before .before .before .lay-solids-line .ensures) (omega arith)) (c .before .before .before .before .before .before .lay-grams-line .ensures) (omega arith))
+    (c .before .before .lay-tonnes-line .ensures)
+    (omega arith)
+
+pub lay-year-spec : {M : Type 1} → statement M
+lay-year-spec =
+    tie.close
+    (tie.spec
+    lay-year-line-requires
+    lay-solids-line-requires
+    lay-grams-line-requires
+    lay-tonnes-line-requires
+    same-length
+    returns)
