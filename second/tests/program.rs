@@ -1,0 +1,200 @@
+//! The programs, from an input to their whole output.
+
+mod common;
+
+use std::io::{self, Read};
+
+use common::*;
+use second::program::{month, records_to_bytes, records_to_text, years};
+
+fn years_of(input: &[u8]) -> String {
+    String::from_utf8(years(input).unwrap()).unwrap()
+}
+
+fn month_of(input: &[u8]) -> String {
+    String::from_utf8(month(input).unwrap()).unwrap()
+}
+
+const SAMPLE_OUTPUT: &str = "\
+year 1
+entered 175200000 degraded 175200000 removed 0 carried 0
+baseline 600445440 project 12000000 metered 504000000
+net 498 credited 498
+refused 8 at 13
+";
+
+#[test]
+fn the_worked_years_whole_output() {
+    assert_eq!(years_of(&sample().concat()), SAMPLE_OUTPUT);
+}
+
+#[test]
+fn empty_input() {
+    assert_eq!(years_of(b""), "refused 8 at 0\n");
+}
+
+#[test]
+fn ten_years_end_without_a_refusal() {
+    let output = years_of(&plain((2011, 1), &[LINE_1], 120, 302).concat());
+    assert_eq!(output.lines().count(), 40);
+    let numbers: Vec<&str> = output.lines().step_by(4).collect();
+    let expected: Vec<String> = (1..=10).map(|number| format!("year {number}")).collect();
+    assert_eq!(numbers, expected);
+}
+
+#[test]
+fn the_first_year_turned_down_is_the_last_line() {
+    let mut records = plain((2011, 1), &[LINE_1], 48, 302);
+    records = without(&records, &[pe(30, 0, 0, 0)]);
+    let output = years_of(&records.concat());
+    assert_eq!(output.lines().count(), 9);
+    assert!(output.ends_with("\nrefused 8 at 30\n"));
+}
+
+#[test]
+fn a_posting_refusal_is_the_only_output() {
+    let whole = sample().concat();
+    let with_last = |last: &[u8]| years_of(&[&whole, last].concat());
+    assert_eq!(with_last(&whole[..16]), "refused 5 at 0\n");
+    assert_eq!(with_last(&hd(1, 121, 1)), "refused 4 at 3\n");
+    assert_eq!(with_last(&[b'?'; 16]), "refused 2 at 0\n");
+    for length in 1..16 {
+        assert_eq!(with_last(&whole[..length]), "refused 1 at 0\n");
+    }
+    // The first refusal, though a torn record follows.
+    assert_eq!(
+        with_last(&[&[b'?'; 16][..], b"HD"].concat()),
+        "refused 2 at 0\n"
+    );
+}
+
+/// Gives its bytes one at a time, and then an error.
+struct Failing<'a> {
+    bytes: &'a [u8],
+    interrupt: bool,
+}
+
+impl Read for Failing<'_> {
+    fn read(&mut self, buffer: &mut [u8]) -> io::Result<usize> {
+        self.interrupt = !self.interrupt;
+        if self.interrupt {
+            return Err(io::ErrorKind::Interrupted.into());
+        }
+        match self.bytes.split_first() {
+            Some((&first, rest)) => {
+                buffer[0] = first;
+                self.bytes = rest;
+                Ok(1)
+            }
+            None => Err(io::Error::other("broken")),
+        }
+    }
+}
+
+fn failing(bytes: &[u8]) -> Failing<'_> {
+    Failing {
+        bytes,
+        interrupt: false,
+    }
+}
+
+#[test]
+fn a_read_error_is_not_the_end_of_input() {
+    let whole = sample().concat();
+    for length in [0, 5, 16, 20, whole.len()] {
+        let failure = years(failing(&whole[..length])).unwrap_err();
+        assert_eq!(failure.to_string(), "the input cannot be read: broken");
+    }
+    let steady = steady_month(672);
+    for length in [0, 1, 2, 9, 10, 400, steady.len()] {
+        assert!(month(failing(&steady[..length])).is_err());
+    }
+    assert!(records_to_text(failing(&whole)).is_err());
+    assert!(records_to_bytes(failing(b"DR 1 6\n")).is_err());
+}
+
+#[test]
+fn reading_stops_at_a_posting_refusal() {
+    let refused = [hd(1, 1, 1), hd(1, 1, 1)].concat();
+    let output = years(failing(&refused)).unwrap();
+    assert_eq!(output, b"refused 5 at 0\n");
+}
+
+fn month_input(efficiency: u16, flows: &[f32], contents: &[f32], states: &[u8]) -> Vec<u8> {
+    let counts = [flows.len(), contents.len(), states.len()].map(|count| count as u16);
+    let mut input = b"CM".to_vec();
+    input.extend(efficiency.to_le_bytes());
+    input.extend(counts.iter().flat_map(|count| count.to_le_bytes()));
+    input.extend(
+        flows
+            .iter()
+            .chain(contents)
+            .flat_map(|reading| reading.to_le_bytes()),
+    );
+    input.extend(states);
+    input
+}
+
+fn steady_month(hours: usize) -> Vec<u8> {
+    month_input(
+        10_000,
+        &vec![100.0; hours],
+        &vec![60.0; hours],
+        &vec![0; hours],
+    )
+}
+
+#[test]
+fn a_month_is_destroyed() {
+    assert_eq!(month_of(&steady_month(672)), "destroyed 27417600\n");
+    let at_98 = month_input(9_800, &[100.0; 744], &[60.0; 744], &[0; 744]);
+    assert_eq!(month_of(&at_98), format!("destroyed {}\n", 744 * 39_984));
+}
+
+#[test]
+fn a_month_with_another_mark() {
+    let mut input = steady_month(672);
+    input[1] = b'N';
+    assert_eq!(month_of(&input), "refused 2 at 0\n");
+    assert_eq!(month_of(b"cm"), "refused 2 at 0\n");
+    assert_eq!(month_of(b"XY\0\0"), "refused 2 at 0\n");
+}
+
+#[test]
+fn a_month_cut_short_or_too_long() {
+    let whole = steady_month(672);
+    for length in (0..20).chain([2697, 2698, 2699, 5386, whole.len() - 1]) {
+        assert_eq!(month_of(&whole[..length]), "refused 10 at 0\n", "{length}");
+    }
+    assert_eq!(month_of(&[&whole[..], b"\0"].concat()), "refused 10 at 0\n");
+    assert_eq!(month_of(b""), "refused 10 at 0\n");
+    assert_eq!(month_of(b"C"), "refused 10 at 0\n");
+}
+
+#[test]
+fn a_month_whose_counts_differ_or_are_no_month() {
+    let flows_longer = month_input(10_000, &[1.0; 673], &[1.0; 672], &[0; 672]);
+    assert_eq!(month_of(&flows_longer), "refused 10 at 0\n");
+    // The same number of bytes, counted otherwise.
+    let shifted = month_input(10_000, &[1.0; 671], &[1.0; 673], &[0; 672]);
+    assert_eq!(month_of(&shifted), "refused 10 at 0\n");
+    for hours in [0, 671, 745, 65_535] {
+        assert_eq!(month_of(&steady_month(hours)), "refused 10 at 0\n");
+    }
+}
+
+#[test]
+fn the_months_own_refusals() {
+    let mut flows = [100.0; 696];
+    flows[695] = f32::from_bits(0x7f80_0001);
+    let efficient = |efficiency| month_input(efficiency, &flows, &[60.0; 696], &[0; 696]);
+    assert_eq!(month_of(&efficient(10_001)), "refused 4 at 0\n");
+    assert_eq!(month_of(&efficient(10_000)), "refused 11 at 695\n");
+}
+
+#[test]
+fn records_both_ways() {
+    let whole = sample().concat();
+    let text = records_to_text(&whole[..]).unwrap();
+    assert_eq!(records_to_bytes(&text[..]).unwrap(), whole);
+}
