@@ -1,0 +1,16 @@
+-- A content's measure, handed over. Assumes nothing.
+use borrow.Author.Needs.{needs}
+use Rattle.cabinet.proofs.cabinet_hundredths.Statement.{statement}
+use Rattle.cabinet.proofs.cabinet_hundredths.Tie as tie
+
+hundredths-requires : tie.Need-hundredths-requires
+hundredths-requires c κs = search needs
+
+counted-requires : tie.Need-counted-requires
+counted-requires c κs = search needs
+
+returns : tie.Need-returns
+returns c = cc
+
+pub cabinet-hundredths-spec : {M : Type 1} → statement M
+cabinet-hundredths-spec = tie.close (tie.spec hundredths-requires counted-requires returns)

@@ -1,0 +1,37 @@
+-- The year's own answer, handed over. Assumes nothing.
+use borrow.Author.Needs.{needs}
+use Rattle.cabinet.proofs.cabinet_year.Statement.{statement}
+use Rattle.cabinet.proofs.cabinet_year.Tie as tie
+
+year-requires : tie.Need-year-requires
+year-requires c κs = search needs
+
+enum-known-figures : tie.Need-enum-known-figures
+enum-known-figures c = search needs
+
+stated-requires : tie.Need-stated-requires
+stated-requires c κs = search needs
+
+enum-known-number : tie.Need-enum-known-number
+enum-known-number c = search needs
+
+refused-requires : tie.Need-refused-requires
+refused-requires c κs = search needs
+
+returns : tie.Need-returns
+returns c = cc
+
+returns-2 : tie.Need-returns-2
+returns-2 c = cc
+
+pub cabinet-year-spec : {M : Type 1} → statement M
+cabinet-year-spec =
+    tie.close
+    (tie.spec
+    year-requires
+    enum-known-figures
+    stated-requires
+    enum-known-number
+    refused-requires
+    returns
+    returns-2)

@@ -1,0 +1,72 @@
+-- What a C caller is handed for each answer: 01's number and place beside the figures. Number 0 says that nothing was refused; a refusal
+-- gives number and place, and no figures (01, "Refusal numbers").
+use Prim.Native.Nat.{ℕ}
+use mathlib.Core.Bool.{Bool, true, false, cond}
+use mathlib.Core.List.{List}
+use lib.Dec.{eqb}
+use lib.IntN.{pos}
+use lib.ListN.{length}
+use Rattle.book.specs.Book.{bookBytes, emptyBook}
+use Rattle.book.specs.declared.Posted.{Posted}
+use Rattle.book.specs.declared.Posted.the-variants.{Taken, Refused as RefusedRecord}
+use Rattle.year.specs.declared.Answer.{Answer}
+use Rattle.year.specs.declared.Answer.the-variants.{Stated, Refused as RefusedYear}
+use Rattle.meter.specs.declared.MonthAnswer.{MonthAnswer}
+use Rattle.meter.specs.declared.MonthAnswer.the-variants.{Destroyed, Refused as RefusedMonth}
+use Rattle.reading.specs.declared.Measure.{Measure}
+use Rattle.reading.specs.declared.Measure.the-variants.{Whole, TurnedDown}
+use Rattle.cabinet.specs.declared.CabinetPosted.{CabinetPosted}
+use Rattle.cabinet.specs.declared.CabinetYear.{CabinetYear}
+use Rattle.cabinet.specs.declared.CabinetMonth.{CabinetMonth}
+use Rattle.cabinet.specs.declared.CabinetReading.{CabinetReading}
+
+-- lent memory of a book's size
+abbrev pub sized : List ℕ → Bool
+sized memory = eqb (length memory) bookBytes
+
+-- which is made an empty book; any other is left as it is
+abbrev pub emptied : List ℕ → List ℕ
+emptied memory = cond (sized memory) emptyBook memory
+
+abbrev pub postedOf : Posted → CabinetPosted
+postedOf Taken = record { number = 0; place = 0 }
+postedOf (RefusedRecord number place) = record { number = number; place = place }
+
+abbrev pub yearOf : Answer → CabinetYear
+yearOf (Stated figures) =
+    record {
+      number = 0;
+      place = 0;
+      entered = figures .entered .0;
+      degraded = figures .degraded .0;
+      removed = figures .removed .0;
+      carried = figures .carried .0;
+      baseline = figures .baseline .0;
+      project = figures .project .0;
+      metered = figures .metered .0;
+      net = figures .net;
+      credited = figures .credited;
+    }
+yearOf (RefusedYear number place) =
+    record {
+      number = number;
+      place = place;
+      entered = 0;
+      degraded = 0;
+      removed = 0;
+      carried = 0;
+      baseline = 0;
+      project = 0;
+      metered = 0;
+      net = pos 0;
+      credited = 0;
+    }
+
+abbrev pub monthOf : MonthAnswer → CabinetMonth
+monthOf (Destroyed methane) = record { number = 0; place = 0; destroyed = methane .0 }
+monthOf (RefusedMonth number place) = record { number = number; place = place; destroyed = 0 }
+
+-- one reading has no number of its own: a month gives refusal 11 for it, at its hour
+abbrev pub readingOf : Measure → CabinetReading
+readingOf (Whole whole) = record { taken = true; whole = whole }
+readingOf TurnedDown = record { taken = false; whole = 0 }
