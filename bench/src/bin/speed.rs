@@ -1,0 +1,230 @@
+//! Proved against plainly written Rust (the second program), side by side in
+//! one run: the least time of each over many rounds, and proved / plain.
+//!
+//!     speed [YEARS SECOND]    with the paths of the two programs, to time them as processes too
+
+use std::fs::File;
+use std::hint::black_box;
+use std::path::Path;
+use std::process::{Command, ExitCode, Stdio};
+use std::time::Instant;
+
+use bench::book::{record, Record, DR, HD, LINES, LN, MONTHS, MT, PE, TP, YR};
+use bench::book::{CATEGORIES, DEVICES};
+use bench::cabinet;
+use bench::random::Random;
+use second::book::Book as PlainBook;
+
+const ROUNDS: usize = 300;
+
+fn main() -> ExitCode {
+    let words: Vec<String> = std::env::args().skip(1).collect();
+    println!("{:44} {:>10} {:>10} {:>6}", "", "proved", "plain", "ratio");
+    let records = full_book();
+    posting("posting a full book, in order, ns a record", &records);
+    let mut shuffled = records.clone();
+    Random::of_case(1, 0).shuffle(&mut shuffled);
+    posting("posting a full book, shuffled, ns a record", &shuffled);
+    years(&drained_at_times(&records));
+    month();
+    if let [proved, plain] = &words[..] {
+        if let Err(message) = programs(&drained_at_times(&records), proved, plain) {
+            eprintln!("speed: {message}");
+            return ExitCode::FAILURE;
+        }
+    }
+    ExitCode::SUCCESS
+}
+
+fn line(what: &str, proved: f64, plain: f64) {
+    println!(
+        "{what:44} {proved:10.2} {plain:10.2} {:6.2}",
+        proved / plain
+    );
+}
+
+/// Nanoseconds of one call of each, by the least of all rounds; the rounds of
+/// the two take turns.
+fn least(calls: usize, mut proved: impl FnMut(), mut plain: impl FnMut()) -> (f64, f64) {
+    let mut least = (f64::MAX, f64::MAX);
+    for _ in 0..ROUNDS {
+        least.0 = least.0.min(timed(calls, &mut proved));
+        least.1 = least.1.min(timed(calls, &mut plain));
+    }
+    least
+}
+
+fn timed(calls: usize, call: &mut impl FnMut()) -> f64 {
+    let start = Instant::now();
+    for _ in 0..calls {
+        call();
+    }
+    start.elapsed().as_nanos() as f64 / calls as f64
+}
+
+/// Into books that are emptied outside the time.
+fn posting(what: &str, records: &[Record]) {
+    let mut proved = cabinet::Book::empty();
+    let mut plain = Box::new(PlainBook::empty());
+    let (mut proved_least, mut plain_least) = (f64::MAX, f64::MAX);
+    for _ in 0..ROUNDS {
+        proved.clear();
+        *plain = PlainBook::empty();
+        let mut post = || {
+            for record in records {
+                black_box(proved.post(black_box(record)));
+            }
+        };
+        proved_least = proved_least.min(timed(1, &mut post));
+        let mut post = || {
+            for record in records {
+                let _ = black_box(plain.post(black_box(record)));
+            }
+        };
+        plain_least = plain_least.min(timed(1, &mut post));
+    }
+    let count = records.len() as f64;
+    line(what, proved_least / count, plain_least / count);
+}
+
+fn years(records: &[Record]) {
+    let mut proved = cabinet::Book::empty();
+    let mut plain = Box::new(PlainBook::empty());
+    for record in records {
+        assert_eq!(proved.post(record).number, 0);
+        assert!(plain.post(record).is_ok());
+    }
+    for year in [1, 10] {
+        let (proved, plain) = least(
+            20,
+            || {
+                black_box(proved.year(black_box(year.into())));
+            },
+            || {
+                let _ = black_box(second::year::year(black_box(&plain), black_box(year)));
+            },
+        );
+        line(
+            &format!("year {year} of 32 lines, µs"),
+            proved / 1e3,
+            plain / 1e3,
+        );
+    }
+}
+
+fn month() {
+    let flows: Vec<f32> = (0..744)
+        .map(|hour| 100.0 + (hour % 37) as f32 * 1.3)
+        .collect();
+    let contents: Vec<f32> = (0..744)
+        .map(|hour| 55.0 + (hour % 11) as f32 * 0.7)
+        .collect();
+    let states: Vec<u8> = (0..744)
+        .map(|hour| u8::from(hour % 50 < 3) + 2 * u8::from(hour % 61 == 9))
+        .collect();
+    let efficiency = 9_800;
+    let (proved, plain) = least(
+        50,
+        || {
+            black_box(cabinet::month(
+                black_box(&flows),
+                black_box(&contents),
+                black_box(&states),
+                efficiency.into(),
+            ));
+        },
+        || {
+            let _ = black_box(second::meter::month(
+                black_box(&flows),
+                black_box(&contents),
+                black_box(&states),
+                efficiency,
+            ));
+        },
+    );
+    line("a meter month of 744 hours, µs", proved / 1e3, plain / 1e3);
+}
+
+/// The whole programs, from start to end, on a ten-year book of 32 lines and
+/// on no record at all.
+fn programs(records: &[Record], proved: &str, plain: &str) -> Result<(), String> {
+    let folder = Path::new(env!("CARGO_MANIFEST_DIR"))
+        .parent()
+        .expect("bench stands in the project")
+        .join("target");
+    for (what, input) in [
+        ("years, ten years of 32 lines, ms", records.concat()),
+        ("years, no record, ms", Vec::new()),
+    ] {
+        let file = folder.join("speed-input");
+        std::fs::write(&file, &input).map_err(|error| format!("{}: {error}", file.display()))?;
+        let (mut proved_least, mut plain_least) = (f64::MAX, f64::MAX);
+        for _ in 0..ROUNDS {
+            proved_least = proved_least.min(process(&mut Command::new(proved), &file)?);
+            plain_least = plain_least.min(process(Command::new(plain).arg("years"), &file)?);
+        }
+        line(what, proved_least / 1e6, plain_least / 1e6);
+        if !input.is_empty() {
+            let rate = |nanoseconds: f64| input.len() as f64 * 1e3 / nanoseconds;
+            println!(
+                "{:44} {:10.0} {:10.0}",
+                "years, ten years of 32 lines, MB/s",
+                rate(proved_least),
+                rate(plain_least)
+            );
+        }
+    }
+    Ok(())
+}
+
+fn process(command: &mut Command, input: &Path) -> Result<f64, String> {
+    let input = File::open(input).map_err(|error| error.to_string())?;
+    command.stdin(Stdio::from(input)).stdout(Stdio::null());
+    let start = Instant::now();
+    let status = command
+        .status()
+        .map_err(|error| format!("{command:?}: {error}"))?;
+    let nanoseconds = start.elapsed().as_nanos() as f64;
+    if status.success() {
+        Ok(nanoseconds)
+    } else {
+        Err(format!("{command:?}: {status}"))
+    }
+}
+
+/// Without most of the drain marks, as a book is: each line drained every sixth month.
+fn drained_at_times(records: &[Record]) -> Vec<Record> {
+    let drain = |record: &&Record| record[..2] != *b"DR" || (record[2] + record[3]) % 6 == 0;
+    records.iter().filter(drain).copied().collect()
+}
+
+/// Every slot filled.
+fn full_book() -> Vec<Record> {
+    let mut records = vec![record(YR, &[2011, 1])];
+    for line in 1..=LINES {
+        let category = (line - 1) % CATEGORIES + 1;
+        records.push(record(LN, &[line, 0, category, 1_000, 6_000, 5_000, 24, 0]));
+    }
+    for category in 1..=CATEGORIES {
+        for month in 1..=MONTHS {
+            records.push(record(HD, &[category, month, 100 + 10 * category + month]));
+        }
+    }
+    for month in 1..=MONTHS {
+        records.push(record(TP, &[month, month * 37 % 400 - 50]));
+    }
+    for line in 1..=LINES {
+        for month in 1..=MONTHS {
+            records.push(record(DR, &[line, month]));
+        }
+    }
+    for month in 1..=MONTHS {
+        records.push(record(PE, &[month, 1_000, 0, 500]));
+    }
+    for month in 1..=MONTHS {
+        for device in 1..=DEVICES {
+            records.push(record(MT, &[month, device, 2_000_000]));
+        }
+    }
+    records
+}
