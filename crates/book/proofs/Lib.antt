@@ -1,5 +1,6 @@
 pub mod Blocks
 pub mod Cleared
+pub mod Determined
 pub mod Filling
 pub mod Free
 pub mod Kept

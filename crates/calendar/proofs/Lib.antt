@@ -1,3 +1,4 @@
+pub mod Determined
 pub mod Months
 pub mod Range
 pub mod YearSum

@@ -1,4 +1,5 @@
 pub mod Apart
+pub mod Determined
 pub mod One
 pub mod Ends
 pub mod Entries

@@ -1,3 +1,4 @@
+pub mod Determined
 pub mod Entry
 pub mod Left
 pub mod Parts

@@ -1,3 +1,4 @@
+pub mod Determined
 pub mod Hours
 pub mod Readings
 pub mod Sizes

@@ -1,3 +1,4 @@
 pub mod Answers
+pub mod Determined
 pub mod Floats
 pub mod Long

@@ -1,5 +1,4 @@
 pub mod Again
-pub mod Determined
 pub mod Keys
 pub mod Made
 pub mod Own

@@ -1,3 +1,4 @@
+pub mod Determined
 pub mod Entries
 pub mod Keys
 pub mod Marks

@@ -1,21 +1,20 @@
--- No two outcomes fit a laying function's contract: what is laid, the page and the place decide the page afterwards and the answer. Assumes nothing.
-use mathlib.Core.Path.{_≡_, sym, _∙_}
-use mathlib.Core.List.{List}
+-- No two outcomes fit the contract of a public function. Assumes nothing.
 use Prim.Native.Nat.{ℕ}
-use Rattle.text.specs.Lines.{printed, refusalLine}
+use mathlib.Core.Path.{_≡_}
+use mathlib.Core.List.{List}
+use Rattle.laws.proofs.Determined.{OneOutcome, one}
 use Rattle.text.specs.Page.{Lays}
+use Rattle.text.proofs.lay_years.Reads as LayYears
+use Rattle.text.proofs.lay_refusal.Reads as LayRefusal
 
-one-outcome :
-    {before after after' : List ℕ} {at end end' : ℕ} {text : List ℕ} → Lays before at text end after → Lays before at text end' after' →
+-- what is laid, and where, decides the page afterwards and the place after it
+lays-one :
+    {before text after after' : List ℕ} {at end end' : ℕ} → Lays before at text end after → Lays before at text end' after' →
     (end ≡ end') × (after ≡ after')
-one-outcome x y = (x .ends ∙ sym (y .ends), x .page ∙ sym (y .page))
+lays-one p q = (one (p .ends) (q .ends), one (p .page) (q .page))
 
-pub lay-years-one :
-    (book : List ℕ) {before after after' : List ℕ} {end end' : ℕ} → Lays before 0 (printed book) end after → Lays before 0 (printed book) end' after' →
-    (end ≡ end') × (after ≡ after')
-lay-years-one book x y = one-outcome x y
+pub lay-years-one : OneOutcome LayYears.Learnt (λ κ s. s .1 .0 .now)
+lay-years-one κ a x y s t = lays-one
 
-pub lay-refusal-one :
-    (number place : ℕ) {before after after' : List ℕ} {at end end' : ℕ} → Lays before at (refusalLine number place) end after →
-    Lays before at (refusalLine number place) end' after' → (end ≡ end') × (after ≡ after')
-lay-refusal-one number place x y = one-outcome x y
+pub lay-refusal-one : OneOutcome LayRefusal.Learnt (λ κ s. s .0 .now)
+lay-refusal-one κ a x y s t = lays-one

@@ -1,3 +1,4 @@
+pub mod Determined
 pub mod Nearest
 pub mod Filings
 pub mod Rounding
