@@ -8,6 +8,7 @@ pub mod calendar;
 pub mod factor;
 pub mod lagoon;
 pub mod meter;
+pub mod months;
 mod needed;
 pub mod program;
 pub mod reading;

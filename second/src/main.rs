@@ -6,7 +6,7 @@ use std::process::ExitCode;
 
 use second::program::{self, Failure};
 
-const USAGE: &str = "usage: second years | month | records to-bytes | records to-text";
+const USAGE: &str = "usage: second years | months | month | records to-bytes | records to-text";
 
 type Program = fn(File) -> Result<Vec<u8>, Failure>;
 
@@ -18,6 +18,7 @@ fn main() -> ExitCode {
     let arguments: Vec<&str> = arguments.iter().map(String::as_str).collect();
     let program: Program = match arguments[..] {
         ["years"] => program::years,
+        ["months"] => program::months,
         ["month"] => program::month,
         ["records", "to-bytes"] => program::records_to_bytes,
         ["records", "to-text"] => program::records_to_text,

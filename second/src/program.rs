@@ -6,6 +6,7 @@ use std::io::{self, BufReader, ErrorKind, Read};
 
 use crate::book::Book;
 use crate::meter;
+use crate::months::{lagoon_months, COLUMNS};
 use crate::record::RECORD_BYTES;
 use crate::refusal::{Reason, Refusal};
 use crate::text;
@@ -44,18 +45,38 @@ impl From<io::Error> for Failure {
 /// Records to years, as paper 01's year program. Reading stops at a posting
 /// refusal, which is then the only output.
 pub fn years(input: impl Read) -> Result<Vec<u8>, Failure> {
+    of_book(input, all_years)
+}
+
+/// Records to the months of the anaerobic lines, under a line that names the
+/// columns.
+pub fn months(input: impl Read) -> Result<Vec<u8>, Failure> {
+    of_book(input, all_months)
+}
+
+/// What is told of the book that the records make, or the refusal of the first
+/// that is refused.
+fn of_book(input: impl Read, told: fn(&Book) -> String) -> Result<Vec<u8>, Failure> {
     let mut input = BufReader::new(input);
     let mut book = Box::new(Book::empty());
     let mut bytes = [0; RECORD_BYTES];
     loop {
         let length = read_record(&mut input, &mut bytes)?;
         if length == 0 {
-            return Ok(all_years(&book).into_bytes());
+            return Ok(told(&book).into_bytes());
         }
         if let Err(refusal) = book.post(&bytes[..length]) {
             return Ok(format!("{refusal}\n").into_bytes());
         }
     }
+}
+
+fn all_months(book: &Book) -> String {
+    let mut output = format!("{COLUMNS}\n");
+    for month in lagoon_months(book) {
+        output += &format!("{month}\n");
+    }
+    output
 }
 
 fn all_years(book: &Book) -> String {
