@@ -1,6 +1,7 @@
 -- The table of the records (01, "The records"): for each mark its letters, and what stands after them, in order.
 -- Assumes nothing.
 use Prim.Native.Nat.{ℕ, _+_, _*_, _-_, _^_}
+use Prim.Native.Char.{Char, code}
 use mathlib.Core.List.{List, [], _∷_}
 use lib.ListN.{getD}
 
@@ -37,39 +38,8 @@ pub record Row : Type 0 where
   pub letters : ℕ
   pub entries : List Entry
 
-abbrev pub mark : ℕ → ℕ → List Entry → Row
-mark first second after = record { letters = first + 256 * second; entries = after }
-
--- the letters, as ASCII has them
-abbrev D : ℕ
-D = 68
-
-abbrev E : ℕ
-E = 69
-
-abbrev H : ℕ
-H = 72
-
-abbrev L : ℕ
-L = 76
-
-abbrev M : ℕ
-M = 77
-
-abbrev N : ℕ
-N = 78
-
-abbrev P : ℕ
-P = 80
-
-abbrev R : ℕ
-R = 82
-
-abbrev T : ℕ
-T = 84
-
-abbrev Y : ℕ
-Y = 89
+abbrev pub mark : Char → Char → List Entry → Row
+mark first second after = record { letters = code first + 256 * code second; entries = after }
 
 -- how many lines, categories, months and devices there are
 abbrev pub lines : ℕ
@@ -91,13 +61,13 @@ all = 256 ^ 4 - 1
 -- The seven rows, as 01 has them. LN's conversion factor is only 0 where its system, at offset 3, is 0.
 abbrev pub table : List Row
 table =
-    mark Y R (u16 2000 2089 ∷ u8 1 12 ∷ zeros 11 ∷ [])
-    ∷ mark L N (key lines ∷ u8 0 1 ∷ u8 1 categories ∷ zeros 1 ∷ u16 0 2000 ∷ u16 0 20000 ∷ u16 0 10000 ∷ u8 0 100 ∷ zeros 1 ∷ field 2 (unless 3 10000) ∷ [])
-    ∷ mark H D (key categories ∷ key months ∷ u32 0 100000 ∷ zeros 8 ∷ [])
-    ∷ mark T P (key months ∷ zeros 1 ∷ i16 500 600 ∷ zeros 10 ∷ [])
-    ∷ mark D R (key lines ∷ key months ∷ zeros 12 ∷ [])
-    ∷ mark P E (key months ∷ zeros 1 ∷ u32 0 all ∷ u32 0 all ∷ u32 0 all ∷ [])
-    ∷ mark M T (key months ∷ key devices ∷ u64 0 (10 ^ 12) ∷ zeros 4 ∷ [])
+    mark "Y" "R" (u16 2000 2089 ∷ u8 1 12 ∷ zeros 11 ∷ [])
+    ∷ mark "L" "N" (key lines ∷ u8 0 1 ∷ u8 1 categories ∷ zeros 1 ∷ u16 0 2000 ∷ u16 0 20000 ∷ u16 0 10000 ∷ u8 0 100 ∷ zeros 1 ∷ field 2 (unless 3 10000) ∷ [])
+    ∷ mark "H" "D" (key categories ∷ key months ∷ u32 0 100000 ∷ zeros 8 ∷ [])
+    ∷ mark "T" "P" (key months ∷ zeros 1 ∷ i16 500 600 ∷ zeros 10 ∷ [])
+    ∷ mark "D" "R" (key lines ∷ key months ∷ zeros 12 ∷ [])
+    ∷ mark "P" "E" (key months ∷ zeros 1 ∷ u32 0 all ∷ u32 0 all ∷ u32 0 all ∷ [])
+    ∷ mark "M" "T" (key months ∷ key devices ∷ u64 0 (10 ^ 12) ∷ zeros 4 ∷ [])
     ∷ []
 
 -- the rows by number, in the table's order
