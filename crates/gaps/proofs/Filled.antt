@@ -6,15 +6,19 @@ use mathlib.Core.Bool.{Bool, true, false}
 use lib.Dec.{ltb}
 use lib.ListN.{getD, replicate}
 use borrow.Author.Tests.{lt-ltb, le-ltb, ltb-true, ltb-false}
-use Rattle.gaps.specs.Series.{valueOf, series}
+use Rattle.gaps.specs.Series.{isRecorded, valueOf, series}
 use Rattle.gaps.specs.Filling.{startOf, fillFrom, orElse, filled}
 use Rattle.gaps.specs.declared.Value.{Value}
-use Rattle.gaps.specs.declared.Value.the-variants.{Missing}
+use Rattle.gaps.specs.declared.Value.the-variants.{Recorded, Missing}
+
+or-known : (v f g : Value) → (isRecorded v ≡ false → f ≡ g) → orElse v f ≡ orElse v g
+or-known (Recorded x) f g known = refl
+or-known Missing f g known = known refl
 
 module _ (unit : ℕ) (s : ℕ → Value) (n h : ℕ) where
-  pub filled-here : h < n → orElse (s h) (fillFrom unit s n (startOf s h)) ≡ filled unit s n h
+  pub filled-here : (f : Value) → (isRecorded (s h) ≡ false → f ≡ fillFrom unit s n (startOf s h)) → h < n → orElse (s h) f ≡ filled unit s n h
   unfolding filled
-  filled-here l = rw (lt-ltb h n l)
+  filled-here f known l = rw (lt-ltb h n l) (or-known (s h) f (fillFrom unit s n (startOf s h)) known)
 
   pub filled-past : n ≤ h → Missing ≡ filled unit s n h
   unfolding filled

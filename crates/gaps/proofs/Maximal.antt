@@ -7,11 +7,11 @@ use mathlib.Core.Bool.{Bool, true, false, cond, true≢false}
 use mathlib.Core.Logic.{⊎-elim}
 use native.Mathlib.Nat.{eq-or-lt-of-le, lt-of-not-le, le-of-suc-le-suc, le-antisymm}
 use native.Mathlib.Omega.{arith}
-use Rattle.gaps.specs.First.{first, firstTo}
+use Rattle.laws.specs.Counting.{firstFrom}
+use Rattle.laws.proofs.Counting.{search-between}
 use Rattle.gaps.specs.Series.{isRecorded}
 use Rattle.gaps.specs.Filling.{startOf, endOf}
 use Rattle.gaps.specs.declared.Value.{Value}
-use Rattle.gaps.proofs.First.{first-between}
 use Rattle.gaps.proofs.Stepping.{start-le}
 
 -- the hours from a up to b of a month of n are missing, hour h is one of them, and no hour of the month beside them is missing
@@ -45,22 +45,22 @@ start-before s (suc h) j e =
     (λ p q. let z : j ≡ h = omega arith in ap (λ (k : ℕ). isRecorded (s k)) z ∙ p) (λ p q. start-before s h j q) refl e
 
 module _ (p : ℕ → Bool) where
-  from-on : (h j : ℕ) → p h ≡ false → h ≤ j → (suc h ≤ j → p j ≡ false) → p j ≡ false
+  from-on : (h j : ℕ) → p h ≡ false → h ≤ j → (h + 1 ≤ j → p j ≡ false) → p j ≡ false
   from-on h j e a r = ⊎-elim (λ q. ap p (sym q) ∙ e) (λ q. r (omega arith)) (eq-or-lt-of-le a)
 
-  first-missing : (k h j : ℕ) → h ≤ j → j < first p k h → p j ≡ false
-  unfolding first
+  first-missing : (k h j : ℕ) → h ≤ j → j < firstFrom h k p → p j ≡ false
+  unfolding firstFrom
   first-missing zero h j a b = absurd (omega arith)
   first-missing (suc k) h j a b =
-      by-test (p h) (λ t. p h ≡ t → j < cond t h (first p k (suc h)) → p j ≡ false)
-      (λ e l. absurd (omega arith)) (λ e l. from-on h j e a (λ q. first-missing k (suc h) j q l)) refl b
+      by-test (p h) (λ t. p h ≡ t → j < cond t h (firstFrom (h + 1) k p) → p j ≡ false)
+      (λ e l. absurd (omega arith)) (λ e l. from-on h j e a (λ q. first-missing k (h + 1) j q l)) refl b
 
-  first-after : (k h : ℕ) → first p k h < h + k → p (first p k h) ≡ true
-  unfolding first
+  first-after : (k h : ℕ) → firstFrom h k p < h + k → p (firstFrom h k p) ≡ true
+  unfolding firstFrom
   first-after zero h b = absurd (omega arith)
   first-after (suc k) h b =
-      by-test (p h) (λ t. p h ≡ t → cond t h (first p k (suc h)) < h + suc k → p (cond t h (first p k (suc h))) ≡ true)
-      (λ e l. e) (λ e l. first-after k (suc h) (omega arith)) refl b
+      by-test (p h) (λ t. p h ≡ t → cond t h (firstFrom (h + 1) k p) < h + suc k → p (cond t h (firstFrom (h + 1) k p)) ≡ true)
+      (λ e l. e) (λ e l. first-after k (h + 1) (omega arith)) refl b
 
 never : (b : Bool) → b ≡ true → b ≡ false → ⊥
 never b t f = true≢false (sym t ∙ f)
@@ -70,7 +70,6 @@ module _ (s : ℕ → Value) (n h : ℕ) (inside : h < n) (gone : isRecorded (s 
   early = omega (arith, start-le s h)
 
   after-is : endOf s n (startOf s h) < n → isRecorded (s (endOf s n (startOf s h))) ≡ true
-  unfolding firstTo
   after-is b = first-after (λ k. isRecorded (s k)) (n - startOf s h) (startOf s h) (omega (arith, early))
 
   -- the run reaches past h: up to h each hour is missing, and the run ends at a recorded one, or at the month's end
@@ -80,16 +79,15 @@ module _ (s : ℕ → Value) (n h : ℕ) (inside : h < n) (gone : isRecorded (s 
       (λ (l : endOf s n (startOf s h) ≤ h).
       never (isRecorded (s (endOf s n (startOf s h)))) (after-is (omega arith))
       (up-to s h (endOf s n (startOf s h)) gone
-      (λ b. start-missing s h (endOf s n (startOf s h)) (first-between (λ k. isRecorded (s k)) n (startOf s h) early .0) b)
+      (λ b. start-missing s h (endOf s n (startOf s h)) (search-between n (startOf s h) (λ k. isRecorded (s k)) early .0) b)
       (omega arith)))
 
   pub maximal : Run s n h (startOf s h) (endOf s n (startOf s h))
-  unfolding firstTo
   maximal =
       record {
         from = start-le s h;
         below = reaches;
-        within = first-between (λ k. isRecorded (s k)) n (startOf s h) early .1;
+        within = search-between n (startOf s h) (λ k. isRecorded (s k)) early .1;
         missing = λ j a b. first-missing (λ k. isRecorded (s k)) (n - startOf s h) (startOf s h) j a b;
         before = λ j e. start-before s h j e;
         after = after-is;

@@ -2,7 +2,7 @@
 use Prim.Native.Nat.{ℕ, zero, suc, _+_, _-_, _*_, _/_}
 use mathlib.Core.Bool.{_&&_, cond}
 use lib.Dec.{leb, ltb}
-use Rattle.gaps.specs.First.{firstTo}
+use Rattle.laws.specs.Counting.{firstFrom}
 use Rattle.gaps.specs.Series.{isRecorded}
 use Rattle.gaps.specs.declared.Value.{Value}
 use Rattle.gaps.specs.declared.Value.the-variants.{Recorded, Missing}
@@ -14,7 +14,7 @@ startOf s (suc h) = cond (isRecorded (s h)) (suc h) (startOf s h)
 
 -- the first hour from h on that is recorded, or the month's end
 abbrev pub endOf : (ℕ → Value) → ℕ → ℕ → ℕ
-endOf s n h = firstTo (λ j. isRecorded (s j)) n h
+endOf s n h = firstFrom h (n - h) (λ j. isRecorded (s j))
 
 -- a sum is there where both its parts are
 abbrev pub plus : Value → Value → Value

@@ -3,7 +3,9 @@
 //
 // A run of missing hours is walked once, at its first hour, and what fills it is worked out there, so that the whole is linear in the hours.
 ghost use mathlib.Core.Path.{_≡_};
-ghost use Prim.Native.Nat.{ℕ, _+_, _*_, _≤_, _<_};
+ghost use mathlib.Core.Bool.{false};
+ghost use lib.Dec.{eqb};
+ghost use Prim.Native.Nat.{ℕ, _*_, _≤_, _<_};
 ghost use lib.ListN.{length};
 ghost use Rattle.gaps.specs.Series.{isRecorded, slotOf, valueOf, series, amount, mostAmount, mostHours, Small, IsUnit};
 ghost use Rattle.gaps.specs.Filling.{neighbours, plus, totalOf, inUnits, endOf, averageOf, fillOf, fillFrom, orElse, startOf, filled};
@@ -35,11 +37,11 @@ pub fn fill(hours: &[u64], unit: u64) -> [u64; MOST_HOURS]
     ensures { λ r. ⌜ ((h : ℕ) → series r h ≡ filled unit (series (now (hours .entry))) (length (now (hours .entry))) h) ⌝ }
 {
     let mut out = [0u64; MOST_HOURS];
-    let mut filling = fill_from(hours, unit, 0);
+    let mut filling = Value::Missing;
     for hour in 0..hours.len() {
         let value = at(hours, hour);
+        filling = filling_at(hours, unit, hour, value, filling);
         out[hour] = slot(or_else(value, filling));
-        filling = next(filling, hours, unit, hour, value);
     }
     out
 }
@@ -53,19 +55,32 @@ fn or_else(value: Value, filling: Value) -> Value
     }
 }
 
-// What fills the run that the next hour stands in: another run begins only after a recorded hour.
-fn next(filling: Value, hours: &[u64], unit: u64, hour: usize, value: Value) -> Value
+// What fills the run that a missing hour stands in: it is worked out at the run's first hour, and kept for the others.
+fn filling_at(hours: &[u64], unit: u64, hour: usize, value: Value, filling: Value) -> Value
     requires { ⌜ (hour < length (now hours)) × (length (now hours) ≤ mostHours) ⌝ }
     requires { ⌜ Small (now hours) ⌝ }
     requires { ⌜ IsUnit unit ⌝ }
     requires { ⌜ value ≡ series (now hours) hour ⌝ }
-    requires { ⌜ filling ≡ fillFrom unit (series (now hours)) (length (now hours)) (startOf (series (now hours)) hour) ⌝ }
-    ensures { λ r. ⌜ r ≡ fillFrom unit (series (now (hours .entry))) (length (now (hours .entry))) (startOf (series (now (hours .entry))) (hour + 1)) ⌝ }
+    requires { ⌜ (startOf (series (now hours)) hour < hour → filling ≡ fillFrom unit (series (now hours)) (length (now hours)) (startOf (series (now hours)) hour)) ⌝ }
+    ensures { λ r. ⌜ (isRecorded value ≡ false → r ≡ fillFrom unit (series (now (hours .entry))) (length (now (hours .entry))) (startOf (series (now (hours .entry))) hour)) ⌝ }
 {
     if is_recorded(value) {
-        return fill_from(hours, unit, hour + 1);
+        return filling;
     }
-    filling
+    if !is_start(hours, hour) {
+        return filling;
+    }
+    fill_from(hours, unit, hour)
+}
+
+// Whether the run that an hour stands in starts there: the hour before it is recorded, or there is none.
+fn is_start(hours: &[u64], hour: usize) -> bool
+    ensures { λ r. ⌜ r ≡ eqb (startOf (series (now (hours .entry))) hour) hour ⌝ }
+{
+    if hour == 0 {
+        return true;
+    }
+    is_recorded(at(hours, hour - 1))
 }
 
 // What fills the run that starts at an hour; nothing where that hour is recorded.

@@ -38,27 +38,50 @@ sum-same f g zero each = refl
 sum-same f g (suc n) each =
     rw (each (suc n) (omega arith) (omega arith), sum-same f g n (λ i low high. each i low (omega arith)))
 
+-- a search up to an end that has come to i: it stops there, passes i, or has nothing left to look at
+module _ (end i : ℕ) (test : ℕ → Bool) where
+  step : i < end → firstFrom i (end - i) test ≡ cond (test i) i (firstFrom (i + 1) (end - (i + 1)) test)
+  unfolding firstFrom
+  step inside =
+      let e : end - i ≡ suc (end - (i + 1)) = omega arith in
+      ap (λ (k : ℕ). firstFrom i k test) e
+
+  pub search-stops : i < end → test i ≡ true → firstFrom i (end - i) test ≡ i
+  search-stops inside t = step inside ∙ ap (λ (b : Bool). cond b i (firstFrom (i + 1) (end - (i + 1)) test)) t
+
+  pub search-passes : i < end → test i ≡ false → firstFrom i (end - i) test ≡ firstFrom (i + 1) (end - (i + 1)) test
+  search-passes inside t = step inside ∙ ap (λ (b : Bool). cond b i (firstFrom (i + 1) (end - (i + 1)) test)) t
+
+  pub search-ends : end ≤ i → firstFrom i (end - i) test ≡ i
+  unfolding firstFrom
+  search-ends past = let e : end - i ≡ 0 = omega arith in ap (λ (k : ℕ). firstFrom i k test) e
+
+between : (a n : ℕ) (test : ℕ → Bool) → (a ≤ firstFrom a n test) × (firstFrom a n test ≤ a + n)
+unfolding firstFrom
+between a zero test = omega arith
+between a (suc n) test = picked (test a) (let later = between (a + 1) n test in omega arith)
+  where
+    picked : (b : Bool) {x : ℕ} → (a ≤ x) × (x ≤ a + suc n) → (a ≤ cond b a x) × (cond b a x ≤ a + suc n)
+    picked true later = omega arith
+    picked false later = later
+
+pub search-between : (end i : ℕ) (test : ℕ → Bool) → i ≤ end → (i ≤ firstFrom i (end - i) test) × (firstFrom i (end - i) test ≤ end)
+search-between end i test inside = let f = between i (end - i) test in omega arith
+
 -- a search from 1 to n that has come to i: what is left of it, from i on
 module _ (n i : ℕ) (test : ℕ → Bool) where
   abbrev pub Reached : Type 0
   Reached = first n test ≡ firstFrom i (n + 1 - i) test
 
-  step : i ≤ n → firstFrom i (n + 1 - i) test ≡ cond (test i) i (firstFrom (i + 1) (n + 1 - (i + 1)) test)
-  unfolding firstFrom
-  step inside =
-      let e : n + 1 - i ≡ suc (n + 1 - (i + 1)) = omega arith in
-      ap (λ (k : ℕ). firstFrom i k test) e
-
   module _ (reached : Reached) where
     pub found : i ≤ n → test i ≡ true → i ≡ first n test
-    found inside t = sym (reached ∙ step inside ∙ ap (λ (b : Bool). cond b i (firstFrom (i + 1) (n + 1 - (i + 1)) test)) t)
+    found inside t = sym (reached ∙ search-stops (n + 1) i test (omega arith) t)
 
     pub passed : i ≤ n → test i ≡ false → first n test ≡ firstFrom (i + 1) (n + 1 - (i + 1)) test
-    passed inside t = reached ∙ step inside ∙ ap (λ (b : Bool). cond b i (firstFrom (i + 1) (n + 1 - (i + 1)) test)) t
+    passed inside t = reached ∙ search-passes (n + 1) i test (omega arith) t
 
     pub none : i ≡ n + 1 → n + 1 ≡ first n test
-    unfolding firstFrom
-    none end = let e : n + 1 - i ≡ 0 = omega arith in sym end ∙ sym (reached ∙ ap (λ (k : ℕ). firstFrom i k test) e)
+    none end = sym end ∙ sym (reached ∙ search-ends (n + 1) i test (omega arith))
 
 pub begins : (n : ℕ) (test : ℕ → Bool) → first n test ≡ firstFrom 1 (n + 1 - 1) test
 begins n test = let e : n ≡ n + 1 - 1 = omega arith in ap (λ (k : ℕ). firstFrom 1 k test) e

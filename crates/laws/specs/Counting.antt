@@ -1,4 +1,4 @@
--- Sums and searches over numbers that are counted from 1. They know nothing of the paper.
+-- Sums and searches over numbers. They know nothing of the paper.
 use Prim.Native.Nat.{ℕ, zero, suc, _+_}
 use mathlib.Core.Bool.{Bool, cond}
 use lib.Dec.{leb}

@@ -15,12 +15,10 @@ use Rattle.reading.specs.Hour.{isOut}
 use Rattle.reading.proofs.Most.{scaled-most}
 use Rattle.gaps.specs.declared.Value.{Value}
 use Rattle.gaps.specs.declared.Value.the-variants.{Recorded, Missing}
-use Rattle.gaps.specs.Series.{amount, isRecorded, mostAmount}
+use Rattle.gaps.specs.Series.{amount, isRecorded}
 use Rattle.meter.specs.declared.Kind.{Kind}
 use Rattle.meter.specs.declared.Kind.the-variants.{CubicMetres}
-use Rattle.meter.specs.declared.Quantity.{Quantity}
-use Rattle.meter.specs.declared.Quantity.the-variants.{Flow, Content}
-use Rattle.meter.specs.Hour.{valueOf, recordedOf, gramsIn, weighed, hourOf, wholeEfficiency}
+use Rattle.meter.specs.Hour.{valueOf, flowOf, contentOf, gramsIn, weighed, hourOf, wholeEfficiency}
 use Rattle.meter.specs.Room.{mostFlow, mostContent}
 
 value-most : (m : Measure) (k : ℕ) → ((n : ℕ) → m ≡ Whole n → n ≤ k) → amount (valueOf m) ≤ k
@@ -32,23 +30,19 @@ none-most : (k : ℕ) → amount Missing ≤ k
 unfolding amount
 none-most k = omega arith
 
-pub flow-most : (r : Reading) → amount (recordedOf Flow r) ≤ mostFlow CubicMetres
-unfolding recordedOf
+pub flow-most : (r : Reading) → amount (flowOf r) ≤ mostFlow CubicMetres
+unfolding flowOf
 flow-most (Both f c) = value-most (scaledOf 1000 mostCubicMetres f) 100000000 (λ n e. scaled-most 1000 mostCubicMetres f n e)
 flow-most (NoFlow c) = none-most 100000000
 flow-most (NoContent f) = value-most (scaledOf 1000 mostCubicMetres f) 100000000 (λ n e. scaled-most 1000 mostCubicMetres f n e)
 flow-most Neither = none-most 100000000
 
-pub content-most : (r : Reading) → amount (recordedOf Content r) ≤ mostContent
-unfolding recordedOf
+pub content-most : (r : Reading) → amount (contentOf r) ≤ mostContent
+unfolding contentOf
 content-most (Both f c) = value-most (scaledOf 100 mostPerCent c) mostContent (λ n e. scaled-most 100 mostPerCent c n e)
 content-most (NoFlow c) = value-most (scaledOf 100 mostPerCent c) mostContent (λ n e. scaled-most 100 mostPerCent c n e)
 content-most (NoContent f) = none-most mostContent
 content-most Neither = none-most mostContent
-
-pub recorded-most : (q : Quantity) (r : Reading) → amount (recordedOf q r) ≤ mostAmount
-recorded-most Flow r = omega (arith, flow-most r)
-recorded-most Content r = omega (arith, content-most r)
 
 -- what an hour can weigh
 abbrev pub mostGrams : ℕ

@@ -6,16 +6,15 @@ use lib.Dec.{eqb, ltb}
 use lib.Ieee.{Float}
 use lib.ListN.{length, getD}
 use Rattle.units.specs.Grams.{methane}
-use Rattle.reading.specs.Hour.{readingAt, isSound}
+use Rattle.reading.specs.Hour.{readingAt}
 use Rattle.gaps.specs.declared.Value.{Value}
-use Rattle.gaps.specs.First.{firstTo}
+use Rattle.laws.specs.Counting.{firstFrom}
 use Rattle.gaps.specs.Filling.{filled}
 use Rattle.meter.specs.declared.Kind.{Kind}
 use Rattle.meter.specs.declared.Kind.the-variants.{CubicMetres}
-use Rattle.meter.specs.declared.Quantity.the-variants.{Flow, Content}
 use Rattle.meter.specs.declared.MonthAnswer.{MonthAnswer}
 use Rattle.meter.specs.declared.MonthAnswer.the-variants.{Destroyed, Refused}
-use Rattle.meter.specs.Hour.{recordedAt, hourOf, wholeEfficiency}
+use Rattle.meter.specs.Hour.{flowOf, contentOf, isSound, recordedAt, hourOf, wholeEfficiency}
 
 -- the sum of f over the n hours from 0 on
 unfoldable pub sumOf : (ℕ → ℕ) → ℕ → ℕ
@@ -37,7 +36,7 @@ destroyedOf kind efficiency state f c n = gramsOf kind efficiency state f c (fil
 
 unfoldable pub meteredOf : List Float → List Float → List ℕ → ℕ → ℕ
 meteredOf flows contents states efficiency =
-    destroyedOf CubicMetres efficiency (stateAt states) (recordedAt Flow flows contents states) (recordedAt Content flows contents states)
+    destroyedOf CubicMetres efficiency (stateAt states) (recordedAt flowOf flows contents states) (recordedAt contentOf flows contents states)
     (length states)
 
 -- a month has 28 to 31 days
@@ -54,7 +53,7 @@ isRefusedAt flows contents states h = ltb 7 (stateAt states h) || not (isSound (
 
 -- the first hour for which it is given; the number of hours where there is none
 abbrev pub firstRefused : List Float → List Float → List ℕ → ℕ
-firstRefused flows contents states = firstTo (isRefusedAt flows contents states) (length states) 0
+firstRefused flows contents states = firstFrom 0 (length states) (isRefusedAt flows contents states)
 
 -- a meter month checks 10, 4, 11, and else states the grams destroyed
 unfoldable pub monthOf : List Float → List Float → List ℕ → ℕ → MonthAnswer

@@ -1,13 +1,13 @@
-// The month of one biogas meter (01, "The meter month"). Each hour is looked at a fixed number of times, and nothing lent is copied or written.
+// The month of one biogas meter (01, "The meter month"). Each hour is read once, its series are looked at a fixed number of times, and nothing lent is written.
 ghost use mathlib.Core.Path.{_≡_};
-ghost use mathlib.Core.Bool.{_||_};
+ghost use mathlib.Core.Bool.{_||_, cond};
 ghost use Prim.Native.Nat.{ℕ, _≤_, _<_};
 ghost use lib.ListN.{length};
 ghost use Rattle.units.specs.Grams.{methane};
-ghost use Rattle.gaps.specs.First.{firstTo};
+ghost use Rattle.reading.specs.Exact.{isUpTo, mostPerCent, hundredthsOf};
 ghost use Rattle.gaps.specs.Series.{series, amount, isRecorded, mostHours};
-ghost use Rattle.meter.specs.Hour.{valueOf, recordedOf, recordedAt, gramsIn, weighed, hourOf, wholeEfficiency};
-ghost use Rattle.meter.specs.Month.{stateAt, gramsOf, destroyedOf, meteredOf, isMonth, areHours, isRefusedAt, monthOf};
+ghost use Rattle.meter.specs.Hour.{valueOf, flowOf, contentOf, isSound, recordedAt, gramsIn, weighed, hourOf, wholeEfficiency};
+ghost use Rattle.meter.specs.Month.{stateAt, gramsOf, destroyedOf, isMonth, areHours, isRefusedAt, firstRefused, monthOf};
 ghost use Rattle.meter.specs.Room.{mostFlow, mostContent};
 use gaps::Value;
 use reading::Measure;
@@ -42,11 +42,20 @@ pub fn month(flows: &[f32], contents: &[f32], states: &[u8], efficiency: u32) ->
     if WHOLE_EFFICIENCY < efficiency {
         return MonthAnswer::Refused(OUT_OF_RANGE, 0);
     }
-    let hour = first_refused(flows, contents, states);
-    if hour < states.len() {
+    let hours = states.len();
+    let mut litres = [0u64; gaps::MOST_HOURS];
+    let mut hundredths = [0u64; gaps::MOST_HOURS];
+    let hour = record_hours(flows, contents, states, &mut litres, &mut hundredths);
+    if hour < hours {
         return MonthAnswer::Refused(BAD_HOUR, hour);
     }
-    MonthAnswer::Destroyed(metered(flows, contents, states, efficiency))
+    MonthAnswer::Destroyed(destroyed(
+        Kind::CubicMetres,
+        efficiency,
+        states,
+        &litres[..hours],
+        &hundredths[..hours],
+    ))
 }
 
 // Whether each hour has its three values, and the hours are those of a month.
@@ -72,104 +81,78 @@ fn is_month(hours: usize) -> bool
     }
 }
 
-// The first hour that is refused, or the number of hours.
-fn first_refused(flows: &[f32], contents: &[f32], states: &[u8]) -> usize
+// Lays what each hour recorded into two series, up to the first hour that is refused: that hour, or the number of hours.
+fn record_hours(
+    flows: &[f32],
+    contents: &[f32],
+    states: &[u8],
+    litres: &mut [u64],
+    hundredths: &mut [u64],
+) -> usize
     requires { ⌜ (length (now flows) ≡ length (now states)) × (length (now contents) ≡ length (now states)) ⌝ }
-    ensures { λ r. ⌜ r ≡ firstTo (isRefusedAt (now (flows .entry)) (now (contents .entry)) (now (states .entry))) (length (now (states .entry))) 0 ⌝ }
+    requires { ⌜ (length (now states) ≤ length (now litres)) × (length (now states) ≤ length (now hundredths)) ⌝ }
+    ensures { λ r. ⌜ r ≡ firstRefused (now (flows .entry)) (now (contents .entry)) (now (states .entry)) ⌝ }
+    ensures { λ r. ⌜ ((h : ℕ) → h < r → series (now (litres .exit)) h ≡ recordedAt flowOf (now (flows .entry)) (now (contents .entry)) (now (states .entry)) h) ⌝ }
+    ensures { λ r. ⌜ ((h : ℕ) → h < r → series (now (hundredths .exit)) h ≡ recordedAt contentOf (now (flows .entry)) (now (contents .entry)) (now (states .entry)) h) ⌝ }
 {
     let mut hour = 0;
     while hour < states.len() {
-        if is_refused(flows, contents, states, hour) {
+        let recorded = recorded_at(flows, contents, states, hour);
+        let Hour::Recorded(flow, content) = recorded else {
             return hour;
-        }
+        };
+        litres[hour] = gaps::slot(flow);
+        hundredths[hour] = gaps::slot(content);
         hour += 1;
     }
     hour
 }
 
+// An hour of a month: refused, or its flow in litres and its content in hundredths of a per cent, where they are there.
+enum Hour {
+    Refused,
+    Recorded(Value, Value),
+}
+
 // Neither value, and the device out.
 const MOST_STATE: u8 = 7;
 
-fn is_refused(flows: &[f32], contents: &[f32], states: &[u8], hour: usize) -> bool
+// What an hour, from 0, records, or that it is refused.
+fn recorded_at(flows: &[f32], contents: &[f32], states: &[u8], hour: usize) -> Hour
     requires { ⌜ (hour < length (now flows)) × (hour < length (now contents)) × (hour < length (now states)) ⌝ }
-    ensures { λ r. ⌜ r ≡ isRefusedAt (now (flows .entry)) (now (contents .entry)) (now (states .entry)) hour ⌝ }
+    ensures { λ r. ⌜ r ≡ cond (isRefusedAt (now (flows .entry)) (now (contents .entry)) (now (states .entry)) hour) Hour.Refused (Hour.Recorded (recordedAt flowOf (now (flows .entry)) (now (contents .entry)) (now (states .entry)) hour) (recordedAt contentOf (now (flows .entry)) (now (contents .entry)) (now (states .entry)) hour)) ⌝ }
 {
     if MOST_STATE < states[hour] {
-        return true;
+        return Hour::Refused;
     }
-    !reading::hour::is_sound(reading::hour::reading_at(flows, contents, states, hour))
+    recorded(reading::hour::reading_at(flows, contents, states, hour))
 }
 
-// What an hour's reading has a value of.
-enum Quantity {
-    Flow,
-    Content,
-}
-
-// Grams destroyed in a month that is not refused.
-fn metered(flows: &[f32], contents: &[f32], states: &[u8], efficiency: u32) -> Methane
-    requires { ⌜ (length (now flows) ≡ length (now states)) × (length (now contents) ≡ length (now states)) × (length (now states) ≤ mostHours) × (efficiency ≤ wholeEfficiency) ⌝ }
-    ensures { λ r. ⌜ r ≡ methane (meteredOf (now (flows .entry)) (now (contents .entry)) (now (states .entry)) efficiency) ⌝ }
+// What a reading records, or that its hour is refused: each value that is present is turned down or counted in one test.
+fn recorded(reading: Reading) -> Hour
+    ensures { λ r. ⌜ r ≡ cond (isSound reading) (Hour.Recorded (flowOf reading) (contentOf reading)) Hour.Refused ⌝ }
 {
-    let hours = states.len();
-    let litres = recorded(Quantity::Flow, flows, contents, states);
-    let hundredths = recorded(Quantity::Content, flows, contents, states);
-    destroyed(
-        Kind::CubicMetres,
-        efficiency,
-        states,
-        &litres[..hours],
-        &hundredths[..hours],
-    )
-}
-
-// What the month recorded of a quantity, as a series.
-fn recorded(
-    quantity: Quantity,
-    flows: &[f32],
-    contents: &[f32],
-    states: &[u8],
-) -> [u64; gaps::MOST_HOURS]
-    requires { ⌜ (length (now flows) ≡ length (now states)) × (length (now contents) ≡ length (now states)) × (length (now states) ≤ mostHours) ⌝ }
-    ensures { λ r. ⌜ length r ≡ mostHours ⌝ }
-    ensures { λ r. ⌜ ((h : ℕ) → series r h ≡ recordedAt quantity (now (flows .entry)) (now (contents .entry)) (now (states .entry)) h) ⌝ }
-{
-    let mut out = [0u64; gaps::MOST_HOURS];
-    for hour in 0..states.len() {
-        out[hour] = gaps::slot(part(
-            quantity,
-            reading::hour::reading_at(flows, contents, states, hour),
-        ));
-    }
-    out
-}
-
-// A flow in litres, or a content in hundredths of a per cent, where it is there.
-fn part(quantity: Quantity, reading: Reading) -> Value
-    ensures { λ r. ⌜ r ≡ recordedOf quantity reading ⌝ }
-{
-    match quantity {
-        Quantity::Flow => match reading {
-            Reading::Both(flow, _) => value(reading::litres(flow)),
-            Reading::NoContent(flow) => value(reading::litres(flow)),
-            Reading::NoFlow(_) => Value::Missing,
-            Reading::Neither => Value::Missing,
+    match reading {
+        Reading::Both(flow, content) => match reading::litres(flow) {
+            Measure::Whole(litres) => with_content(Value::Recorded(litres), content),
+            Measure::TurnedDown => Hour::Refused,
         },
-        Quantity::Content => match reading {
-            Reading::Both(_, content) => value(reading::hundredths(content)),
-            Reading::NoContent(_) => Value::Missing,
-            Reading::NoFlow(content) => value(reading::hundredths(content)),
-            Reading::Neither => Value::Missing,
+        Reading::NoFlow(content) => with_content(Value::Missing, content),
+        Reading::NoContent(flow) => match reading::litres(flow) {
+            Measure::Whole(litres) => Hour::Recorded(Value::Recorded(litres), Value::Missing),
+            Measure::TurnedDown => Hour::Refused,
         },
+        Reading::Neither => Hour::Recorded(Value::Missing, Value::Missing),
     }
 }
 
-fn value(measure: Measure) -> Value
-    ensures { λ r. ⌜ r ≡ valueOf measure ⌝ }
+// The hour of a flow that is taken, or missing, and a content that is present.
+fn with_content(flow: Value, content: f32) -> Hour
+    ensures { λ r. ⌜ r ≡ cond (isUpTo mostPerCent content) (Hour.Recorded flow (valueOf (hundredthsOf content))) Hour.Refused ⌝ }
 {
-    match measure {
-        Measure::Whole(n) => Value::Recorded(n),
-        Measure::TurnedDown => Value::Missing,
+    match reading::hundredths(content) {
+        Measure::Whole(hundredths) => Hour::Recorded(flow, Value::Recorded(hundredths)),
+        Measure::TurnedDown => Hour::Refused,
     }
 }
 

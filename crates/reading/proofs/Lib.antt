@@ -4,4 +4,5 @@ pub mod Determined
 pub mod Edges
 pub mod Most
 pub mod Product
+pub mod Ranges
 pub mod States

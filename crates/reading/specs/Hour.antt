@@ -1,13 +1,12 @@
 -- An hour's reading, by its state (01, "The meter month").
 use Prim.Native.Nat.{ℕ, _/_, _%_}
-use mathlib.Core.Bool.{Bool, true, _&&_, cond}
+use mathlib.Core.Bool.{Bool, cond}
 use mathlib.Core.List.{List}
 use lib.Dec.{eqb}
 use lib.Ieee.{Float, nan}
 use lib.ListN.{getD}
 use Rattle.reading.specs.declared.hour.Reading.{Reading}
 use Rattle.reading.specs.declared.hour.Reading.the-variants.{Both, NoFlow, NoContent, Neither}
-use Rattle.reading.specs.Exact.{isUpTo, mostCubicMetres, mostPerCent}
 
 -- state 0: both present; 1: no flow; 2: no content; 3: neither. The 4 that is added when the device was out changes nothing here, and a
 -- missing value's bits are ignored.
@@ -24,10 +23,3 @@ isOut state = eqb (state / 4 % 2) 1
 -- hour h's reading, h from 0; past the last state there is neither value
 abbrev pub readingAt : List Float → List Float → List ℕ → ℕ → Reading
 readingAt flows contents states h = readingOf (getD states h 3) (getD flows h nan) (getD contents h nan)
-
--- each value that is present is a number in its range (01, "Refusal numbers", 11)
-unfoldable pub isSound : Reading → Bool
-isSound (Both flow content) = isUpTo mostCubicMetres flow && isUpTo mostPerCent content
-isSound (NoFlow content) = isUpTo mostPerCent content
-isSound (NoContent flow) = isUpTo mostCubicMetres flow
-isSound Neither = true

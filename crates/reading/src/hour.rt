@@ -2,8 +2,7 @@
 ghost use mathlib.Core.Path.{_≡_};
 ghost use Prim.Native.Nat.{_<_};
 ghost use lib.ListN.{length};
-ghost use Rattle.reading.specs.Exact.{isUpTo, mostCubicMetres, mostPerCent};
-ghost use Rattle.reading.specs.Hour.{isOut, readingAt, isSound};
+ghost use Rattle.reading.specs.Hour.{isOut, readingAt};
 
 // Flow and content, one of them, or nothing.
 pub enum Reading {
@@ -43,32 +42,4 @@ pub fn reading_at(flows: &[f32], contents: &[f32], states: &[u8], hour: usize) -
         NO_CONTENT => Reading::NoContent(flows[hour]),
         _ => Reading::Neither,
     }
-}
-
-// Whether each value that is present is a number in its range.
-pub fn is_sound(reading: Reading) -> bool
-    ensures { λ r. ⌜ r ≡ isSound reading ⌝ }
-{
-    match reading {
-        Reading::Both(flow, content) => if is_flow(flow) {
-            is_content(content)
-        } else {
-            false
-        },
-        Reading::NoFlow(content) => is_content(content),
-        Reading::NoContent(flow) => is_flow(flow),
-        Reading::Neither => true,
-    }
-}
-
-fn is_flow(flow: f32) -> bool
-    ensures { λ r. ⌜ r ≡ isUpTo mostCubicMetres flow ⌝ }
-{
-    crate::is_up_to(flow, crate::MOST_CUBIC_METRES)
-}
-
-fn is_content(content: f32) -> bool
-    ensures { λ r. ⌜ r ≡ isUpTo mostPerCent content ⌝ }
-{
-    crate::is_up_to(content, crate::MOST_PER_CENT)
 }

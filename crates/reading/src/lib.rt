@@ -55,7 +55,7 @@ pub fn scaled(x: f32, factor: u32, most: u32) -> Measure
 }
 
 // Whether x is a number from 0 to `most`: a comparison with what is no number is false.
-pub fn is_up_to(x: f32, most: u32) -> bool
+fn is_up_to(x: f32, most: u32) -> bool
     requires { ⌜ most ≤ 2 ^ 24 ⌝ }
     ensures { λ r. ⌜ r ≡ isUpTo most x ⌝ }
 {

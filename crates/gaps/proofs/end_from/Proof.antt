@@ -7,7 +7,7 @@ use borrow.Author.Needs.{needs}
 use lib.ListN.{length}
 use Rattle.gaps.specs.Series.{isRecorded, series}
 use Rattle.gaps.specs.Filling.{endOf}
-use Rattle.gaps.proofs.First.{first-here, first-skip, first-none}
+use Rattle.laws.proofs.Counting.{search-stops, search-passes, search-ends}
 use Rattle.gaps.proofs.end_from.Statement.{statement}
 use Rattle.gaps.proofs.end_from.Tie as tie
 
@@ -32,7 +32,7 @@ returns c =
     let hours = t .before .before .args .hours .now in
     sym
     (t .loop .inv .1
-    ∙ first-here (λ j. isRecorded (series hours j)) (length hours) (t .loop .end) (omega arith)
+    ∙ search-stops (length hours) (t .loop .end) (λ j. isRecorded (series hours j)) (omega arith)
     (sym (ap isRecorded (c .before .before .at .ensures)) ∙ sym (c .before .is-recorded .ensures) ∙ c .if1 .taken))
 
 add-end : tie.Need-add-end Inv-loop μ-loop
@@ -47,7 +47,7 @@ loop-again c =
     let hours = t .before .before .args .hours .now in (
       search needs,
       t .loop .inv .1
-          ∙ first-skip (λ j. isRecorded (series hours j)) (length hours) (t .loop .end) (omega arith)
+          ∙ search-passes (length hours) (t .loop .end) (λ j. isRecorded (series hours j)) (omega arith)
           (sym (ap isRecorded (c .before .before .at .ensures)) ∙ sym (c .before .is-recorded .ensures) ∙ c .if1 .left),
     )
 
@@ -55,7 +55,7 @@ returns-2 : tie.Need-returns-2 Inv-loop μ-loop
 returns-2 c =
     let t = c .before in
     let hours = t .before .before .args .hours .now in
-    sym (t .loop .inv .1 ∙ first-none (λ j. isRecorded (series hours j)) (length hours) (t .loop .end) (omega arith))
+    sym (t .loop .inv .1 ∙ search-ends (length hours) (t .loop .end) (λ j. isRecorded (series hours j)) (omega arith))
 
 pub end-from-spec : {M : Type 1} → statement M
 end-from-spec =

@@ -1,46 +1,52 @@
--- `gaps::fill` meets its contract. The loop's invariant: what fills the run of the hour at hand is known, the hours passed are filled, and nothing is stored past them.
+-- `gaps::fill` meets its contract. The loop's invariant: where a run goes on past the hours passed, what fills it is known; the hours passed are filled, and nothing is stored past them.
 -- Assumes nothing.
-use mathlib.Core.Path.{_≡_, refl, _∙_}
+use mathlib.Core.Path.{_≡_, refl, ap, _∙_}
+use mathlib.Core.Bool.{false}
 use Prim.Native.Nat.{ℕ, _≤_, _<_, _-_}
 use native.Mathlib.Omega.{arith}
 use borrow.Author.Needs.{needs}
 use borrow.Author.Count.{below-none}
 use lib.ListN.{length, length-set}
-use Rattle.gaps.specs.Series.{series, mostHours, mostAmount}
-use Rattle.gaps.specs.Filling.{fillFrom, startOf, filled}
+use Rattle.gaps.specs.Series.{series, isRecorded, mostHours, mostAmount}
+use Rattle.gaps.specs.Filling.{fillFrom, startOf, orElse, filled}
+use Rattle.gaps.specs.declared.Value.{Value}
 use Rattle.gaps.specs.declared.Value.the-variants.{Missing}
 use Rattle.gaps.proofs.Filled.{filled-here, filled-past, nothing, agree}
 use Rattle.gaps.proofs.Sizes.{filled-most}
-use Rattle.gaps.proofs.Stepping.{stored, later}
+use Rattle.gaps.proofs.Stepping.{start-kept, stored, later}
 use Rattle.gaps.proofs.fill.Statement.{statement}
 use Rattle.gaps.proofs.fill.Tie as tie
 
 abbrev Inv-loop : tie.InvT-loop
-Inv-loop hours unit out₀ filling₀ hour₀ hour-end out filling hour = (hour ≤ hour-end) × (hour-end ≡ length hours) × (length out ≡ mostHours) × (filling ≡ fillFrom unit (series hours) (length hours) (startOf (series hours) hour)) × ((k : ℕ) → k < hour → series out k ≡ filled unit (series hours) (length hours) k) × ((k : ℕ) → hour ≤ k → series out k ≡ Missing)
+Inv-loop hours unit out₀ filling₀ hour₀ hour-end out filling hour = (hour ≤ hour-end) × (hour-end ≡ length hours) × (length out ≡ mostHours) × (startOf (series hours) hour < hour → filling ≡ fillFrom unit (series hours) (length hours) (startOf (series hours) hour)) × ((k : ℕ) → k < hour → series out k ≡ filled unit (series hours) (length hours) k) × ((k : ℕ) → hour ≤ k → series out k ≡ Missing)
 
 abbrev μ-loop : tie.MeasureT-loop
 μ-loop hours unit out₀ filling₀ hour₀ hour-end out filling hour = hour-end - hour
 
-fill-from-requires : tie.Need-fill-from-requires Inv-loop μ-loop
-fill-from-requires c κs = search needs
-
 loop-holds : tie.Need-loop-holds Inv-loop μ-loop
-unfolding startOf
-loop-holds c = (search needs, refl, refl, c .fill-from .ensures, below-none _, λ k l. nothing mostHours k)
+loop-holds c = (search needs, refl, refl, (λ l. absurd (omega arith)), below-none _, λ k l. nothing mostHours k)
 
 at-requires : tie.Need-at-requires Inv-loop μ-loop
 at-requires c κs = search needs
+
+filling-at-requires : tie.Need-filling-at-requires Inv-loop μ-loop
+filling-at-requires c κs =
+    let l = c .before .before in
+    let s = l .before .before in
+    ((omega arith, s .pre .0), (s .pre .1 .0, (s .pre .1 .1, (c .at .ensures, l .loop .inv .3))))
 
 or-else-requires : tie.Need-or-else-requires Inv-loop μ-loop
 or-else-requires c κs = search needs
 
 slot-requires : tie.Need-slot-requires Inv-loop μ-loop
 slot-requires c κs =
-    let l = c .before .before .before in
-    let s = l .before .before .before in
+    let l = c .before .before .before .before in
+    let s = l .before .before in
     let hours = series (s .args .hours .now) in
     let n = length (s .args .hours .now) in
-    rw (c .or-else .ensures, c .before .at .ensures, l .loop .inv .3, filled-here (s .args .unit) hours n (l .loop .hour) (omega arith))
+    let f = c .before .filling-at in
+    let at = c .before .before .at .ensures in
+    rw (c .or-else .ensures, at, filled-here (s .args .unit) hours n (l .loop .hour) (f .result) (λ e. f .ensures (ap isRecorded at ∙ e)) (omega arith))
     (filled-most hours mostAmount (s .pre .1 .0) (s .args .unit) n (l .loop .hour))
 
 mul-out : tie.Need-mul-out Inv-loop μ-loop
@@ -48,12 +54,6 @@ mul-out c = search needs
 
 array-write-out : tie.Need-array-write-out Inv-loop μ-loop
 array-write-out c = search needs
-
-next-requires : tie.Need-next-requires Inv-loop μ-loop
-next-requires c κs =
-    let l = c .before .before .before .before in
-    let s = l .before .before .before in
-    ((omega arith, s .pre .0), (s .pre .1 .0, (s .pre .1 .1, (c .before .before .at .ensures, l .loop .inv .3))))
 
 add-hour : tie.Need-add-hour Inv-loop μ-loop
 add-hour c = search needs
@@ -64,26 +64,28 @@ loop-less c = search needs
 loop-again : tie.Need-loop-again Inv-loop μ-loop
 loop-again c =
     let l = c .before .before .before .before .before in
-    let s = l .before .before .before in
+    let s = l .before .before in
     let hours = series (s .args .hours .now) in
     let n = length (s .args .hours .now) in
-    let at = l .loop .hour in
-    let v = c .before .before .or-else .result in
-    let here : v ≡ filled (s .args .unit) hours n at =
-    c .before .before .or-else .ensures
-    ∙ rw (c .before .before .before .at .ensures, l .loop .inv .3) (filled-here (s .args .unit) hours n at (omega arith)) in (
+    let hour = l .loop .hour in
+    let v = c .before .or-else .result in
+    let f = c .before .before .filling-at in
+    let at = c .before .before .before .at .ensures in
+    let known : isRecorded (hours hour) ≡ false → f .result ≡ fillFrom (s .args .unit) hours n (startOf hours hour) = λ e. f .ensures (ap isRecorded at ∙ e) in
+    let here : v ≡ filled (s .args .unit) hours n hour =
+    c .before .or-else .ensures ∙ ap (λ (w : Value). orElse w (f .result)) at ∙ filled-here (s .args .unit) hours n hour (f .result) known (omega arith) in (
       omega arith,
       refl,
       simp length-set (omega arith),
-      c .next .ensures,
-      rw (c .before .slot .ensures) (stored (l .loop .out) at v (filled (s .args .unit) hours n) (omega arith) (l .loop .inv .4) here),
-      rw (c .before .slot .ensures) (later (l .loop .out) at v (l .loop .inv .5)),
+      start-kept hours hour (λ (a : ℕ). f .result ≡ fillFrom (s .args .unit) hours n a) known,
+      rw (c .slot .ensures) (stored (l .loop .out) hour v (filled (s .args .unit) hours n) (omega arith) (l .loop .inv .4) here),
+      rw (c .slot .ensures) (later (l .loop .out) hour v (l .loop .inv .5)),
     )
 
 returns : tie.Need-returns Inv-loop μ-loop
 returns c =
     let l = c .before in
-    let s = l .before .before .before in
+    let s = l .before .before in
     let hours = series (s .args .hours .now) in
     let n = length (s .args .hours .now) in
     let done : l .loop .hour ≡ n = omega arith in (
@@ -98,14 +100,13 @@ fill-spec =
     (tie.spec
     Inv-loop
     μ-loop
-    fill-from-requires
     loop-holds
     at-requires
+    filling-at-requires
     or-else-requires
     slot-requires
     mul-out
     array-write-out
-    next-requires
     add-hour
     loop-less
     loop-again

@@ -5,7 +5,7 @@ use mathlib.Core.Path.{_∙_, ap}
 use lib.ListN.{length}
 use Rattle.gaps.specs.Series.{isRecorded, series}
 use Rattle.gaps.specs.Filling.{fillOf}
-use Rattle.gaps.proofs.First.{first-between}
+use Rattle.laws.proofs.Counting.{search-between}
 use borrow.Author.Needs.{needs}
 use Rattle.gaps.proofs.fill_from.Statement.{statement}
 use Rattle.gaps.proofs.fill_from.Tie as tie
@@ -17,7 +17,7 @@ fill-of-requires : tie.Need-fill-of-requires
 fill-of-requires c κs =
     let s = c .before .before in
     let hours = s .args .hours .now in
-    let b = first-between (λ j. isRecorded (series hours j)) (length hours) (s .args .start) (s .pre .0 .0) in
+    let b = search-between (length hours) (s .args .start) (λ j. isRecorded (series hours j)) (s .pre .0 .0) in
     (rw (c .end-from .ensures) (omega arith), s .pre .1)
 
 returns : tie.Need-returns

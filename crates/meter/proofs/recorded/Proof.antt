@@ -1,90 +1,107 @@
--- `meter::recorded` meets its contract. The loop's invariant: the hours passed are stored, and nothing past them.
+-- `meter::recorded` meets its contract: each arm knows the reading's case, and whether its flow is taken.
 -- Assumes nothing.
-use mathlib.Core.Path.{_≡_, refl, ap, sym, _∙_}
-use Prim.Native.Nat.{ℕ, _≤_, _<_, _-_}
-use native.Mathlib.Omega.{arith}
+use mathlib.Core.Path.{_≡_, sym, _∙_}
+use Rattle.reading.specs.declared.Measure.the-variants.{Whole, TurnedDown}
+use Rattle.reading.specs.Exact.{mostCubicMetres, litresOf}
+use Rattle.reading.proofs.Ranges.{taken, turned-down}
+use Rattle.meter.specs.Hour.{flowOf, contentOf, isSound}
 use borrow.Author.Needs.{needs}
-use borrow.Author.Count.{below-none}
-use lib.ListN.{length, length-set}
-use Rattle.gaps.specs.declared.Value.the-variants.{Missing}
-use Rattle.gaps.specs.Series.{series, mostHours}
-use Rattle.gaps.proofs.Filled.{nothing, agree}
-use Rattle.gaps.proofs.Stepping.{stored, later}
-use Rattle.meter.specs.Hour.{recordedOf, recordedAt}
-use Rattle.meter.proofs.Readings.{past}
-use Rattle.meter.proofs.Sizes.{recorded-most}
 use Rattle.meter.proofs.recorded.Statement.{statement}
 use Rattle.meter.proofs.recorded.Tie as tie
 
-abbrev Inv-loop : tie.InvT-loop
-Inv-loop quantity flows contents states out₀ hour₀ hour-end out hour = (hour ≤ length states) × (hour-end ≡ length states) × (length out ≡ mostHours) × ((k : ℕ) → k < hour → series out k ≡ recordedAt quantity flows contents states k) × ((k : ℕ) → hour ≤ k → series out k ≡ Missing)
+enum-known-reading : tie.Need-enum-known-reading
+enum-known-reading c = search needs
 
-abbrev μ-loop : tie.MeasureT-loop
-μ-loop quantity flows contents states out₀ hour₀ hour-end out hour = hour-end - hour
+litres-requires : tie.Need-litres-requires
+litres-requires c κs = search needs
 
-loop-holds : tie.Need-loop-holds Inv-loop μ-loop
-loop-holds c = (search needs, refl, refl, below-none _, λ k l. nothing mostHours k)
+enum-known-litres : tie.Need-enum-known-litres
+enum-known-litres c = search needs
 
-reading-at-requires : tie.Need-reading-at-requires Inv-loop μ-loop
-reading-at-requires c κs = omega arith
+with-content-requires : tie.Need-with-content-requires
+with-content-requires c κs = search needs
 
-part-requires : tie.Need-part-requires Inv-loop μ-loop
-part-requires c κs = search needs
+enum-told : tie.Need-enum-told
+enum-told c = search needs
 
-slot-requires : tie.Need-slot-requires Inv-loop μ-loop
-slot-requires c κs =
-    let a = c .before .before .before .before .before .before .before .args in
-    rw (c .part .ensures) (recorded-most (a .quantity) (c .before .reading-at .result))
+enum-known-reading-2 : tie.Need-enum-known-reading-2
+enum-known-reading-2 c = search needs
 
-mul-out : tie.Need-mul-out Inv-loop μ-loop
-mul-out c = search needs
+with-content-requires-2 : tie.Need-with-content-requires-2
+with-content-requires-2 c κs = search needs
 
-array-write-out : tie.Need-array-write-out Inv-loop μ-loop
-array-write-out c = search needs
+enum-known-reading-3 : tie.Need-enum-known-reading-3
+enum-known-reading-3 c = search needs
 
-add-hour : tie.Need-add-hour Inv-loop μ-loop
-add-hour c = search needs
+litres-requires-2 : tie.Need-litres-requires-2
+litres-requires-2 c κs = search needs
 
-loop-less : tie.Need-loop-less Inv-loop μ-loop
-loop-less c = search needs
+enum-known-litres-2 : tie.Need-enum-known-litres-2
+enum-known-litres-2 c = search needs
 
-loop-again : tie.Need-loop-again Inv-loop μ-loop
-unfolding recordedAt
-loop-again c =
-    let a = c .before .before .before .before .before .before .before .before .args in
-    let l = c .before .before .before .before .loop in
-    let v = c .before .part .result in (
-      search needs,
-      refl,
-      simp length-set (omega arith),
-      rw (c .slot .ensures)
-          (stored (l .out) (l .hour) v (recordedAt (a .quantity) (a .flows .now) (a .contents .now) (a .states .now)) (omega arith) (l .inv .3)
-          (c .before .part .ensures ∙ ap (recordedOf (a .quantity)) (c .before .before .reading-at .ensures))),
-      rw (c .slot .ensures) (later (l .out) (l .hour) v (l .inv .4)),
-    )
+enum-told-2 : tie.Need-enum-told-2
+enum-told-2 c = search needs
 
-returns : tie.Need-returns Inv-loop μ-loop
+enum-told-3 : tie.Need-enum-told-3
+enum-told-3 c = search needs
+
+returns : tie.Need-returns
+unfolding flowOf contentOf isSound
 returns c =
-    let a = c .before .before .before .before .before .args in
-    let l = c .before .loop in (
-      l .inv .2,
-      agree (series (l .out)) (recordedAt (a .quantity) (a .flows .now) (a .contents .now) (a .states .now)) (l .hour) (l .inv .3) (l .inv .4)
-          (λ k b. sym (past (a .quantity) (a .flows .now) (a .contents .now) (a .states .now) k (omega arith))),
-    )
+    let both = c .before .before .before .before .before .before .reading .given in
+    let whole = c .before .before .litres2 .given in
+    let e : litresOf (both .0 .0) ≡ Whole (whole .0 .0) = sym (c .before .before .before .before .litres .ensures) ∙ whole .1 in
+    rw (both .1, taken 1000 mostCubicMetres (both .0 .0) (whole .0 .0) e, e) (c .with-content .ensures)
+
+returns-2 : tie.Need-returns-2
+unfolding flowOf contentOf isSound
+returns-2 c =
+    let both = c .before .before .before .before .reading .given in
+    let e : litresOf (both .0 .0) ≡ TurnedDown = sym (c .before .before .litres .ensures) ∙ c .enum-told .given .1 in
+    rw (both .1, turned-down 1000 mostCubicMetres (both .0 .0) e)
+
+returns-3 : tie.Need-returns-3
+unfolding flowOf contentOf isSound
+returns-3 c = rw (c .before .before .reading2 .given .1) (c .with-content2 .ensures)
+
+returns-4 : tie.Need-returns-4
+unfolding flowOf contentOf isSound
+returns-4 c =
+    let alone = c .before .before .before .before .before .reading3 .given in
+    let whole = c .before .litres4 .given in
+    let e : litresOf (alone .0 .0) ≡ Whole (whole .0 .0) = sym (c .before .before .before .litres3 .ensures) ∙ whole .1 in
+    rw (alone .1, taken 1000 mostCubicMetres (alone .0 .0) (whole .0 .0) e, e)
+
+returns-5 : tie.Need-returns-5
+unfolding flowOf contentOf isSound
+returns-5 c =
+    let alone = c .before .before .before .before .reading3 .given in
+    let e : litresOf (alone .0 .0) ≡ TurnedDown = sym (c .before .before .litres3 .ensures) ∙ c .enum-told2 .given .1 in
+    rw (alone .1, turned-down 1000 mostCubicMetres (alone .0 .0) e)
+
+returns-6 : tie.Need-returns-6
+unfolding flowOf contentOf isSound
+returns-6 c = rw (c .enum-told3 .given .1)
 
 pub recorded-spec : {M : Type 1} → statement M
 recorded-spec =
     tie.close
     (tie.spec
-    Inv-loop
-    μ-loop
-    loop-holds
-    reading-at-requires
-    part-requires
-    slot-requires
-    mul-out
-    array-write-out
-    add-hour
-    loop-less
-    loop-again
-    returns)
+    enum-known-reading
+    litres-requires
+    enum-known-litres
+    with-content-requires
+    enum-told
+    enum-known-reading-2
+    with-content-requires-2
+    enum-known-reading-3
+    litres-requires-2
+    enum-known-litres-2
+    enum-told-2
+    enum-told-3
+    returns
+    returns-2
+    returns-3
+    returns-4
+    returns-5
+    returns-6)

@@ -1,0 +1,157 @@
+-- `meter::record_hours` meets its contract. The loop's invariant: the search from the hour at hand on gives what the whole search gives, and
+-- the hours passed stand in both series.
+-- Assumes nothing.
+use mathlib.Core.Path.{_≡_, refl, ap, sym, _∙_}
+use Prim.Native.Nat.{ℕ, _≤_, _<_, _-_}
+use native.Mathlib.Omega.{arith}
+use borrow.Author.Needs.{needs}
+use borrow.Author.Count.{below-none}
+use lib.ListN.{length, length-set}
+use Rattle.laws.specs.Counting.{firstFrom}
+use Rattle.laws.proofs.Counting.{search-stops, search-passes, search-ends}
+use Rattle.gaps.specs.Series.{series}
+use Rattle.gaps.proofs.Stepping.{stored}
+use Rattle.meter.specs.Hour.{flowOf, contentOf, recordedAt}
+use Rattle.meter.specs.Month.{isRefusedAt, firstRefused}
+use Rattle.meter.proofs.Readings.{flows-small, contents-small}
+use Rattle.meter.proofs.Recording.{is-refused, is-recorded}
+use Rattle.meter.proofs.record_hours.Statement.{statement}
+use Rattle.meter.proofs.record_hours.Tie as tie
+
+abbrev Inv-loop : tie.InvT-loop
+Inv-loop flows contents states litres₀ hundredths₀ hour₀ litres hundredths hour = (hour ≤ length states) × (length litres ≡ length litres₀) × (length hundredths ≡ length hundredths₀) × (firstRefused flows contents states ≡ firstFrom hour (length states - hour) (isRefusedAt flows contents states)) × ((k : ℕ) → k < hour → series litres k ≡ recordedAt flowOf flows contents states k) × ((k : ℕ) → k < hour → series hundredths k ≡ recordedAt contentOf flows contents states k)
+
+abbrev μ-loop : tie.MeasureT-loop
+μ-loop flows contents states litres₀ hundredths₀ hour₀ litres hundredths hour = length states - hour
+
+loop-holds : tie.Need-loop-holds Inv-loop μ-loop
+loop-holds c =
+    let a = c .before .before .before .before .before .args in
+    let n = length (a .states .now) in
+    let all : n ≡ n - 0 = omega arith in
+    (search needs, refl, refl, ap (λ (k : ℕ). firstFrom 0 k (isRefusedAt (a .flows .now) (a .contents .now) (a .states .now))) all, below-none _, below-none _)
+
+recorded-at-requires : tie.Need-recorded-at-requires Inv-loop μ-loop
+recorded-at-requires c κs = omega arith
+
+enum-known-recorded : tie.Need-enum-known-recorded Inv-loop μ-loop
+enum-known-recorded c = search needs
+
+enum-told : tie.Need-enum-told Inv-loop μ-loop
+enum-told c = search needs
+
+same-length : tie.Need-same-length Inv-loop μ-loop
+same-length c = search needs
+
+same-length-2 : tie.Need-same-length-2 Inv-loop μ-loop
+same-length-2 c = search needs
+
+returns : tie.Need-returns Inv-loop μ-loop
+returns c =
+    let l = c .before .before .before .before in
+    let a = l .before .before .before .before .before .before .args in
+    let F = a .flows .now in
+    let C = a .contents .now in
+    let S = a .states .now in
+    let h = l .loop .hour in (
+      sym (l .loop .inv .3 ∙ search-stops (length S) h (isRefusedAt F C S) (omega arith) (is-refused (isRefusedAt F C S h) (recordedAt flowOf F C S h) (recordedAt contentOf F C S h) (sym (c .before .before .recorded-at .ensures) ∙ c .enum-told .given .1))),
+      (l .loop .inv .4, l .loop .inv .5),
+    )
+
+slot-requires : tie.Need-slot-requires Inv-loop μ-loop
+slot-requires c κs =
+    let l = c .before .before .before .before .before in
+    let a = l .before .before .before .before .before .before .args in
+    let F = a .flows .now in
+    let C = a .contents .now in
+    let S = a .states .now in
+    let h = l .loop .hour in
+    let g = c .before .recorded .given in
+    let k = is-recorded (isRefusedAt F C S h) (recordedAt flowOf F C S h) (recordedAt contentOf F C S h) (g .0 .0) (g .0 .1 .0) (sym (c .before .before .before .recorded-at .ensures) ∙ g .1) in
+    rw (k .1) (omega (arith, flows-small F C S h))
+
+mul-litres : tie.Need-mul-litres Inv-loop μ-loop
+mul-litres c = search needs
+
+slice-write-litres : tie.Need-slice-write-litres Inv-loop μ-loop
+slice-write-litres c = omega arith
+
+slot-requires-2 : tie.Need-slot-requires-2 Inv-loop μ-loop
+slot-requires-2 c κs =
+    let l = c .before .before .before .before .before .before in
+    let a = l .before .before .before .before .before .before .args in
+    let F = a .flows .now in
+    let C = a .contents .now in
+    let S = a .states .now in
+    let h = l .loop .hour in
+    let g = c .before .before .recorded .given in
+    let k = is-recorded (isRefusedAt F C S h) (recordedAt flowOf F C S h) (recordedAt contentOf F C S h) (g .0 .0) (g .0 .1 .0) (sym (c .before .before .before .before .recorded-at .ensures) ∙ g .1) in
+    rw (k .2) (omega (arith, contents-small F C S h))
+
+mul-hundredths : tie.Need-mul-hundredths Inv-loop μ-loop
+mul-hundredths c = search needs
+
+slice-write-hundredths : tie.Need-slice-write-hundredths Inv-loop μ-loop
+slice-write-hundredths c = omega arith
+
+add-hour : tie.Need-add-hour Inv-loop μ-loop
+add-hour c = search needs
+
+loop-less : tie.Need-loop-less Inv-loop μ-loop
+loop-less c = search needs
+
+loop-again : tie.Need-loop-again Inv-loop μ-loop
+loop-again c =
+    let l = c .before .before .before .before .before .before .before in
+    let a = l .before .before .before .before .before .before .args in
+    let F = a .flows .now in
+    let C = a .contents .now in
+    let S = a .states .now in
+    let h = l .loop .hour in
+    let g = c .before .before .before .recorded .given in
+    let k = is-recorded (isRefusedAt F C S h) (recordedAt flowOf F C S h) (recordedAt contentOf F C S h) (g .0 .0) (g .0 .1 .0) (sym (c .before .before .before .before .before .recorded-at .ensures) ∙ g .1) in (
+      omega arith,
+      simp length-set (l .loop .inv .1),
+      simp length-set (l .loop .inv .2),
+      l .loop .inv .3 ∙ search-passes (length S) h (isRefusedAt F C S) (omega arith) (k .0),
+      rw (c .before .slot .ensures) (stored (l .loop .litres) h (g .0 .0) (recordedAt flowOf F C S) (omega arith) (l .loop .inv .4) (k .1)),
+      rw (c .slot2 .ensures) (stored (l .loop .hundredths) h (g .0 .1 .0) (recordedAt contentOf F C S) (omega arith) (l .loop .inv .5) (k .2)),
+    )
+
+same-length-3 : tie.Need-same-length-3 Inv-loop μ-loop
+same-length-3 c = search needs
+
+same-length-4 : tie.Need-same-length-4 Inv-loop μ-loop
+same-length-4 c = search needs
+
+returns-2 : tie.Need-returns-2 Inv-loop μ-loop
+returns-2 c =
+    let l = c .before in
+    let a = l .before .before .before .before .before .before .args in
+    (sym (l .loop .inv .3 ∙ search-ends (length (a .states .now)) (l .loop .hour) (isRefusedAt (a .flows .now) (a .contents .now) (a .states .now)) (omega arith)), (l .loop .inv .4, l .loop .inv .5))
+
+pub record-hours-spec : {M : Type 1} → statement M
+record-hours-spec =
+    tie.close
+    (tie.spec
+    Inv-loop
+    μ-loop
+    loop-holds
+    recorded-at-requires
+    enum-known-recorded
+    enum-told
+    same-length
+    same-length-2
+    returns
+    slot-requires
+    mul-litres
+    slice-write-litres
+    slot-requires-2
+    mul-hundredths
+    slice-write-hundredths
+    add-hour
+    loop-less
+    loop-again
+    same-length-3
+    same-length-4
+    returns-2)
