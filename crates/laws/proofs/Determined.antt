@@ -11,9 +11,9 @@ module _ {K : Type 0} {A X S : K → Type 0} (Learnt : (κ : K) → A κ → X �
   abbrev pub OneOutcome : {L : Type 0} → ((κ : K) → S κ → L) → Type 0
   OneOutcome lent = (κ : K) (a : A κ) (x y : X κ) (s t : S κ) → Learnt κ a x s → Learnt κ a y t → (x ≡ y) × (lent κ s ≡ lent κ t)
 
-  -- where only a part of the answer is told, that part is one
-  abbrev pub OneTold : {T : Type 0} → ((κ : K) → A κ → X κ → T) → Type 0
-  OneTold told = (κ : K) (a : A κ) (x y : X κ) (s t : S κ) → Learnt κ a x s → Learnt κ a y t → told κ a x ≡ told κ a y
+  -- where the outcome is told only in part, that part is one
+  abbrev pub OneTold : {T : Type 0} → ((κ : K) → A κ → X κ → S κ → T) → Type 0
+  OneTold told = (κ : K) (a : A κ) (x y : X κ) (s t : S κ) → Learnt κ a x s → Learnt κ a y t → told κ a x s ≡ told κ a y t
 
 -- two values that are both what a definition gives are one
 pub one : {B : Type 0} {x y given : B} → x ≡ given → y ≡ given → x ≡ y

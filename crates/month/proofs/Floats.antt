@@ -8,7 +8,7 @@ use lib.Ieee.{Float, nan}
 use lib.ListN.{length, getD, take, drop, length-drop}
 use lib.Seq.{ext-getD, getD-take, length-take-le, take-length}
 use Rattle.reading.specs.Stored.{floatAt}
-use Rattle.month.specs.Input.{floatsAt}
+use Rattle.month.specs.Format.{floatsAt}
 
 pub floats-length : (input : List ℕ) (at n : ℕ) → length (floatsAt input at n) ≡ n
 unfolding floatsAt

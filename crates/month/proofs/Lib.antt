@@ -1,4 +1,3 @@
-pub mod Answers
 pub mod Determined
 pub mod Floats
 pub mod Long

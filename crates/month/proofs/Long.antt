@@ -15,7 +15,7 @@ use Rattle.meter.specs.declared.MonthAnswer.{MonthAnswer}
 use Rattle.meter.specs.declared.MonthAnswer.the-variants.{Refused}
 use Rattle.meter.specs.Month.{areHours, monthOf}
 use Rattle.meter.proofs.Hours.{as-long}
-use Rattle.month.specs.Input.{isOtherMark, floatsAt, flowsOf, contentsOf, contentsFrom, statesFrom, lengthOf, efficiencyOf, lentOf, statedOf}
+use Rattle.month.specs.Format.{isOtherMark, floatsAt, flowsOf, contentsOf, contentsFrom, statesFrom, lengthOf, efficiencyOf, lentOf, statedOf}
 use Rattle.month.proofs.Floats.{floats-length}
 
 -- what is no month is refused 10

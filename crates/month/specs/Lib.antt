@@ -1,3 +1,2 @@
-pub mod Got
-pub mod Input
+pub mod Format
 pub mod Line

@@ -4,21 +4,29 @@ use mathlib.Core.Path.{_≡_}
 use mathlib.Core.List.{List}
 use Rattle.laws.proofs.Determined.{OneOutcome, one}
 use Rattle.page.specs.Page.{Lays}
-use Rattle.page.proofs.put.Reads as Put
-use Rattle.page.proofs.put_number.Reads as PutNumber
-use Rattle.page.proofs.put_pair.Reads as PutPair
+use Rattle.page.proofs.lay_refusal.Reads as LayRefusal
+use Rattle.page.proofs.lay_figure.Reads as LayFigure
+use Rattle.page.proofs.lay_word.Reads as LayWord
+use Rattle.page.proofs.lay_signed.Reads as LaySigned
+use Rattle.page.proofs.lay_decimal.Reads as LayDecimal
 
 -- what is laid, and where, decides the page afterwards and the place after it
 pub lays-one :
     {before text after after' : List ℕ} {at end end' : ℕ} → Lays before at text end after → Lays before at text end' after' →
     (end ≡ end') × (after ≡ after')
-lays-one p q = (one (p .ends) (q .ends), one (p .bytes) (q .bytes))
+lays-one p q = (one (p .ends) (q .ends), one (p .page) (q .page))
 
-pub put-one : OneOutcome Put.Learnt (λ κ s. s .0 .now)
-put-one κ a x y s t = lays-one
+pub lay-refusal-one : OneOutcome LayRefusal.Learnt (λ κ s. s .0 .now)
+lay-refusal-one κ a x y s t = lays-one
 
-pub put-number-one : OneOutcome PutNumber.Learnt (λ κ s. s .0 .now)
-put-number-one κ a x y s t p q = lays-one (p .0) (q .0)
+pub lay-figure-one : OneOutcome LayFigure.Learnt (λ κ s. s .0 .now)
+lay-figure-one κ a x y s t = lays-one
 
-pub put-pair-one : OneOutcome PutPair.Learnt (λ κ s. s .0 .now)
-put-pair-one κ a x y s t p q = lays-one (p .0) (q .0)
+pub lay-word-one : OneOutcome LayWord.Learnt (λ κ s. s .0 .now)
+lay-word-one κ a x y s t = lays-one
+
+pub lay-signed-one : OneOutcome LaySigned.Learnt (λ κ s. s .0 .now)
+lay-signed-one κ a x y s t = lays-one
+
+pub lay-decimal-one : OneOutcome LayDecimal.Learnt (λ κ s. s .0 .now)
+lay-decimal-one κ a x y s t = lays-one

@@ -1,3 +1,6 @@
 pub mod Determined
+pub mod Digits
+pub mod Edges
 pub mod Laying
-pub mod Places
+pub mod Lengths
+pub mod Minus

@@ -1,20 +1,16 @@
--- How long the lines are, and that a page of `pageBytes` holds all that is printed: no figure of a u64 has more than twenty digits. Assumes nothing.
+-- How long a year's lines are, and that `yearBytes` hold them, or a refusal in their place. Assumes nothing.
 use mathlib.Core.Path.{_≡_}
-use Prim.Native.Nat.{ℕ, suc, _+_, _^_, _≤_, _<_}
+use Prim.Native.Nat.{ℕ, _+_, _^_, _≤_, _<_}
 use native.Mathlib.Omega.{arith}
-use lib.IntN.{ℤ, pos, negsuc}
 use lib.ListN.{length, length-append}
 use Rattle.year.specs.declared.Figures.{Figures}
-use Rattle.text.specs.Number.{decimal, signed}
 use mir.Syntax.{w64}
 use mir.Val.{SFits}
+use Rattle.page.specs.Number.{decimal, signed}
+use Rattle.page.specs.Line.{refusalLine}
+use Rattle.page.proofs.Lengths.{wide, wide-signed, refusal-most}
 use Rattle.text.specs.Page.{yearBytes}
-use Rattle.text.proofs.Digits.{at-most}
-use Rattle.text.specs.Lines.{refusalLine, yearLine, solidsLine, gramsLine, tonnesLine, yearLines}
-
-pub refusal-length : (number place : ℕ) → length (refusalLine number place) ≡ 13 + length (decimal number) + length (decimal place)
-unfolding refusalLine
-refusal-length number place = simp length-append (omega arith)
+use Rattle.text.specs.Lines.{yearLine, solidsLine, gramsLine, tonnesLine, yearLines}
 
 pub year-length : (year : ℕ) → length (yearLine year) ≡ 6 + length (decimal year)
 unfolding yearLine
@@ -40,17 +36,8 @@ pub lines-length : (year : ℕ) (f : Figures) → length (yearLines year f) ≡ 
 unfolding yearLines
 lines-length year f = simp length-append (omega arith)
 
--- twenty digits hold a u64, and nineteen after a minus sign an i64
-wide : (n : ℕ) → n < 2 ^ 64 → length (decimal n) ≤ 20
-wide n h = at-most 19 n (omega arith)
-
-wide-signed : (z : ℤ) → SFits w64 z → length (signed z) ≤ 20
-unfolding signed
-wide-signed (pos n) f = let h = f .sfits in wide n (omega arith)
-wide-signed (negsuc n) f = let h = f .sfits in omega (arith, at-most 18 (suc n) (omega arith))
-
 pub refusal-fits : (number place : ℕ) → number < 2 ^ 8 → place < 2 ^ 64 → length (refusalLine number place) ≤ yearBytes
-refusal-fits number place a b = omega (arith, refusal-length number place, wide number (omega arith), wide place b)
+refusal-fits number place a b = omega (arith, refusal-most number place a b)
 
 -- the figures as code holds them
 pub record Held (f : Figures) : Type 0 where

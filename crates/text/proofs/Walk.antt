@@ -8,9 +8,11 @@ use Rattle.year.specs.declared.Figures.{Figures}
 use Rattle.year.specs.declared.Answer.{Answer}
 use Rattle.year.specs.declared.Answer.the-variants.{Stated, Refused}
 use Rattle.year.specs.Answer.{answerOf}
-use Rattle.text.specs.Lines.{refusalLine, yearLines, answerLines, yearsFrom, years, printed}
-use Rattle.text.specs.Page.{Lays, yearBytes, pageBytes}
-use Rattle.text.proofs.Laying.{joined, laid-length, laid-none}
+use Rattle.page.specs.Page.{Lays}
+use Rattle.page.specs.Line.{refusalLine}
+use Rattle.page.proofs.Laying.{joined, laid-length, laid-none}
+use Rattle.text.specs.Lines.{yearLines, answerLines, yearsFrom, years, printed}
+use Rattle.text.specs.Page.{yearBytes, pageBytes}
 
 -- the lines of a year and of those after it
 unfoldable pub from : List ℕ → ℕ → List ℕ

@@ -1,3 +1,2 @@
-pub mod Number
 pub mod Lines
 pub mod Page

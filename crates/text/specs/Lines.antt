@@ -1,23 +1,12 @@
 -- What the year program prints for a book (01, "Figures to check"): each line ends with a newline. Assumes nothing.
 use Prim.Native.Nat.{ℕ, zero, suc, _+_}
-use Prim.Native.String.{String}
 use mathlib.Core.List.{List, [], _++_}
 use Rattle.year.specs.declared.Figures.{Figures}
 use Rattle.year.specs.declared.Answer.{Answer}
 use Rattle.year.specs.declared.Answer.the-variants.{Stated, Refused}
 use Rattle.year.specs.Answer.{answerOf}
-use Rattle.text.specs.Number.{word, decimal, signed}
-
-abbrev pub newline : List ℕ
-newline = word "\n"
-
--- a word and the figure after it
-abbrev pub figure : String → ℕ → List ℕ
-figure name n = word name ++ decimal n
-
--- the line of a refusal, of a record or of a year, by its number and its place
-unfoldable pub refusalLine : ℕ → ℕ → List ℕ
-refusalLine number place = figure "refused " number ++ figure " at " place ++ newline
+use Rattle.page.specs.Number.{word, signed}
+use Rattle.page.specs.Line.{newline, figure, refusalLine}
 
 -- line one: the year's number
 unfoldable pub yearLine : ℕ → List ℕ

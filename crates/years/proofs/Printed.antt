@@ -15,7 +15,7 @@ use Rattle.book.specs.Book.{emptyBook, recordAt, answerBy, answerOf}
 use Rattle.book.specs.Run.{recordsFrom, recordsOf, onward, answerAll, bookAll}
 use Rattle.book.specs.declared.Posted.{Posted}
 use Rattle.book.specs.declared.Posted.the-variants.{Taken, Refused}
-use Rattle.text.specs.Lines.{refusalLine}
+use Rattle.page.specs.Line.{refusalLine}
 use Rattle.years.specs.declared.Ending.{Ending}
 use Rattle.years.specs.Output.{bookOf, endingBy, endingOf, endingLines, output}
 use Rattle.years.proofs.Posting.{after, stays, parts}

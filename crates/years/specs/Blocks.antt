@@ -1,8 +1,7 @@
 -- The input comes in blocks (01, "Figures to check": the year program): what is posted of one, and what of it is held for the next.
 -- Assumes nothing.
-use Prim.Native.Nat.{ℕ, _*_, _-_, _/_, _≤_, min}
+use Prim.Native.Nat.{ℕ, _*_, _-_, _/_}
 use mathlib.Core.List.{List, _++_}
-use lib.IntN.{ℤ, pos, negsuc}
 use lib.ListN.{take, drop}
 use Rattle.keys.specs.Number.{recordBytes}
 use Rattle.book.specs.Run.{recordsOf}
@@ -10,8 +9,6 @@ use Rattle.book.specs.declared.Posted.{Posted}
 use Rattle.book.specs.declared.Posted.the-variants.{Taken, Refused as RefusedRecord}
 use Rattle.years.specs.declared.Fed.{Fed}
 use Rattle.years.specs.declared.Fed.the-variants.{Held, Refused}
-use Rattle.years.specs.declared.Got.{Got}
-use Rattle.years.specs.declared.Got.the-variants.{Bytes, Failed}
 
 -- how many of n bytes are whole records, and those records among a block's first n bytes
 abbrev pub wholeBytes : ℕ → ℕ
@@ -32,13 +29,3 @@ blockBy (RefusedRecord number place) block filled = block
 abbrev pub fedBy : Posted → ℕ → Fed
 fedBy Taken filled = Held (filled - wholeBytes filled)
 fedBy (RefusedRecord number place) filled = Refused number place
-
--- what a read's answer says, into so many bytes of room: below 0 it failed, and 0 is the end of the input
-abbrev pub gotBy : ℤ → ℕ → Got
-gotBy (pos count) room = Bytes (min count room)
-gotBy (negsuc n) room = Failed
-
--- a read gives no more bytes than there is room for
-abbrev pub Room : Got → ℕ → Type 0
-Room (Bytes count) room = count ≤ room
-Room Failed room = Unit

@@ -6,7 +6,8 @@ use Rattle.book.specs.Book.{emptyBook}
 use Rattle.book.specs.Run.{recordsOf, answerAll, bookAll}
 use Rattle.book.specs.declared.Posted.{Posted}
 use Rattle.book.specs.declared.Posted.the-variants.{Taken, Refused as RefusedRecord}
-use Rattle.text.specs.Lines.{refusalLine, printed}
+use Rattle.page.specs.Line.{refusalLine}
+use Rattle.text.specs.Lines.{printed}
 use Rattle.years.specs.declared.Ending.{Ending}
 use Rattle.years.specs.declared.Ending.the-variants.{Ended, Refused, Failed}
 

@@ -1,36 +1,28 @@
 // The year program: reads records from standard input, posts them, and prints the years of the book that they make
 // or the refusal that ended the reading.
 ghost use mathlib.Core.Path.{_≡_};
-ghost use Prim.Native.Nat.{_+_, _-_, _≤_, _<_};
-ghost use lib.ListN.{length, take};
+ghost use Prim.Native.Nat.{_-_, _≤_};
+ghost use lib.ListN.{length};
 ghost use Rattle.keys.specs.Number.{recordBytes};
 ghost use Rattle.book.specs.Book.{emptyBook};
 ghost use Rattle.book.specs.Run.{recordsOf, answerAll, bookAll};
 ghost use Rattle.book.specs.Valid.{Valid};
-ghost use Rattle.text.specs.Page.{Lays, pageBytes};
-ghost use Rattle.years.specs.Blocks.{wholeRecords, carried, blockBy, fedBy, gotBy, Room};
+ghost use Rattle.page.specs.Page.{Lays};
+ghost use Rattle.text.specs.Page.{pageBytes};
+ghost use Rattle.years.specs.Blocks.{wholeRecords, carried, blockBy, fedBy};
 ghost use Rattle.years.specs.Output.{endingBy, Comes, endingLines};
 use book::Posted;
+use input::Got;
 use keys::RECORD;
-use libc::STDIN_FILENO;
 use libc::STDOUT_FILENO;
 
 // How many bytes are read at a time, at most: 4,096 records.
 const BLOCK: usize = 65_536;
 
-// How often a read that a signal interrupts is tried again.
-const TRIES: u64 = 1_000_000;
-
 // How the reading ended: with the input's end, all records taken; at a refusal; or with a read that failed.
 enum Ending {
     Ended,
     Refused(u8, usize),
-    Failed,
-}
-
-// What a read gave: so many bytes, none at the input's end.
-enum Got {
-    Bytes(usize),
     Failed,
 }
 
@@ -68,7 +60,7 @@ fn post_input(book: &mut [u8], block: &mut [u8]) -> Ending
 {
     let mut held = 0;
     loop {
-        let Got::Bytes(count) = read_more(block, held) else {
+        let Got::Bytes(count) = input::read_more(block, held) else {
             return Ending::Failed;
         };
         if count == 0 {
@@ -83,36 +75,6 @@ fn post_input(book: &mut [u8], block: &mut [u8]) -> Ending
             }
         }
     }
-}
-
-// Reads once behind the bytes that are held, or again where a signal came first.
-fn read_more(block: &mut [u8], held: usize) -> Got
-    requires { ⌜ held < length (now block) ⌝ }
-    ensures { λ r. ⌜ Room r (length (now (block .entry)) - held) ⌝ }
-    ensures { λ _. ⌜ take held (now (block .exit)) ≡ take held (now (block .entry)) ⌝ }
-{
-    let mut tries = TRIES;
-    while 0 < tries {
-        let answer = libc::read(STDIN_FILENO, &mut block[held..]);
-        if 0 <= answer {
-            return told(answer, &block[held..]);
-        }
-        if os::errno() != libc::EINTR {
-            return told(answer, &block[held..]);
-        }
-        tries -= 1;
-    }
-    Got::Failed
-}
-
-// What a read's answer says: below 0 it failed, and is not taken for the end of the input.
-fn told(answer: isize, room: &[u8]) -> Got
-    ensures { λ r. ⌜ r ≡ gotBy answer (length (now (room .entry))) ⌝ }
-{
-    if answer < 0 {
-        return Got::Failed;
-    }
-    Got::Bytes(io::count(answer, room))
 }
 
 // Posts the whole records among a block's first bytes, and carries the bytes of a cut one to its start.
@@ -164,7 +126,7 @@ fn lay_output(book: &[u8], ending: Ending, page: &mut [u8]) -> usize
 {
     match ending {
         Ending::Ended => text::lay_years(book, page),
-        Ending::Refused(number, place) => text::lay_refusal(page, 0, number, place as u64),
+        Ending::Refused(number, place) => page::lay_refusal(page, 0, number, place as u64),
         Ending::Failed => 0,
     }
 }

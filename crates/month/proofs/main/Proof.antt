@@ -5,8 +5,8 @@ use Prim.Native.Nat.{ℕ, _≤_}
 use native.Mathlib.Omega.{arith}
 use lib.ListN.{length}
 use lib.Seq.{length-take-le}
-use Rattle.month.specs.declared.Got.the-variants.{Bytes}
-use Rattle.month.specs.Got.{bytesIn}
+use Rattle.input.specs.declared.Got.the-variants.{Bytes}
+use Rattle.input.proofs.Within.{given}
 use borrow.Author.Needs.{needs}
 use Rattle.month.proofs.main.Statement.{statement}
 use Rattle.month.proofs.main.Tie as tie
@@ -14,10 +14,7 @@ use Rattle.month.proofs.main.Tie as tie
 -- what was read lies within the buffer
 within :
     (r : tie.After-read-input) (k : ℕ) → r .read-input .result ≡ Bytes k → k ≤ length (r .read-input .last .0)
-unfolding bytesIn
-within r k e =
-    let all : bytesIn (r .read-input .result) ≤ length (r .read-input .last .0) = r .read-input .ensures in
-    rw e at all
+within r k e = given (r .read-input .result) k (length (r .read-input .last .0)) e (r .read-input .ensures)
 
 slice-aggregate-read-input : tie.Need-slice-aggregate-read-input
 slice-aggregate-read-input c = search needs

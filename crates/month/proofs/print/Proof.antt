@@ -1,9 +1,8 @@
--- `month::print` meets its contract: the line lies within the page.
--- Assumes nothing.
+-- The line lies within the page. Assumes nothing.
 use mathlib.Core.Path.{sym}
-use native.Mathlib.Omega.{arith}
-use lib.Seq.{length-take-le}
 use borrow.Author.Needs.{needs}
+use lib.Seq.{length-take-le}
+use Rattle.page.proofs.Laying.{within}
 use Rattle.month.proofs.print.Statement.{statement}
 use Rattle.month.proofs.print.Tie as tie
 
@@ -14,12 +13,10 @@ line-requires : tie.Need-line-requires
 line-requires c κs = search needs
 
 array-share-prefix-page : tie.Need-array-share-prefix-page
-array-share-prefix-page c = search needs
+array-share-prefix-page c = within (c .before .line .ensures)
 
 slice-aggregate-write-all : tie.Need-slice-aggregate-write-all
-slice-aggregate-write-all c =
-    let l = c .before .before .line in
-    sym (length-take-le (l .result) (l .last .1 .0) (omega (arith, l .ensures .1, l .kept .1 .0)))
+slice-aggregate-write-all c = sym (length-take-le _ _ (within (c .before .before .line .ensures)))
 
 write-all-requires : tie.Need-write-all-requires
 write-all-requires c κs = search needs

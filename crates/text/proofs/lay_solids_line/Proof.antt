@@ -2,7 +2,7 @@
 use native.Mathlib.Omega.{arith}
 use borrow.Author.Needs.{needs}
 use Rattle.text.specs.Lines.{solidsLine}
-use Rattle.text.proofs.Laying.{joined}
+use Rattle.page.proofs.Laying.{joined}
 use Rattle.text.proofs.Lengths.{solids-length}
 use Rattle.text.proofs.lay_solids_line.Statement.{statement}
 use Rattle.text.proofs.lay_solids_line.Tie as tie

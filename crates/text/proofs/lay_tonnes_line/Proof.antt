@@ -6,9 +6,9 @@ use lib.IntN.{ℤ}
 use lib.ListN.{length}
 use mir.Syntax.{w64}
 use mir.Val.{toZ, ofZ}
-use Rattle.text.specs.Number.{signed}
+use Rattle.page.specs.Number.{signed}
 use Rattle.text.specs.Lines.{tonnesLine}
-use Rattle.text.proofs.Laying.{joined}
+use Rattle.page.proofs.Laying.{joined}
 use Rattle.text.proofs.Lengths.{tonnes-length}
 use Rattle.text.proofs.lay_tonnes_line.Statement.{statement}
 use Rattle.text.proofs.lay_tonnes_line.Tie as tie

@@ -2,7 +2,7 @@
 use native.Mathlib.Omega.{arith}
 use borrow.Author.Needs.{needs}
 use Rattle.text.specs.Lines.{yearLines}
-use Rattle.text.proofs.Laying.{joined}
+use Rattle.page.proofs.Laying.{joined}
 use Rattle.text.proofs.Lengths.{lines-length}
 use Rattle.text.proofs.lay_year.Statement.{statement}
 use Rattle.text.proofs.lay_year.Tie as tie

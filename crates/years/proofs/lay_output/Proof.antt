@@ -4,7 +4,7 @@ use Prim.Native.Nat.{_^_, _<_}
 use native.Mathlib.Omega.{arith}
 use borrow.Author.Needs.{needs}
 use Rattle.years.specs.Output.{endingLines}
-use Rattle.text.proofs.Laying.{laid-none}
+use Rattle.page.proofs.Laying.{laid-none}
 use Rattle.text.proofs.Lengths.{refusal-fits}
 use Rattle.years.proofs.lay_output.Statement.{statement}
 use Rattle.years.proofs.lay_output.Tie as tie

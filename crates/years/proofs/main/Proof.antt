@@ -3,7 +3,7 @@ use mathlib.Core.Path.{sym}
 use borrow.Author.Needs.{needs}
 use lib.Seq.{length-take-le}
 use Rattle.years.proofs.Sizes.{book-size, block-size}
-use Rattle.text.proofs.Laying.{within}
+use Rattle.page.proofs.Laying.{within}
 use Rattle.years.proofs.main.Statement.{statement}
 use Rattle.years.proofs.main.Tie as tie
 

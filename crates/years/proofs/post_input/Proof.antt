@@ -6,10 +6,8 @@ use native.Mathlib.Omega.{arith}
 use borrow.Author.Needs.{needs}
 use lib.ListN.{length}
 use lib.Seq.{length-take-le}
-use Rattle.years.specs.Blocks.{Room}
+use Rattle.input.proofs.Within.{given}
 use Rattle.years.specs.Output.{unread}
-use Rattle.years.specs.declared.Got.{Got}
-use Rattle.years.specs.declared.Got.the-variants.{Bytes}
 use Rattle.years.specs.declared.Fed.the-variants.{Held}
 use Rattle.years.proofs.Posting.{kept-all}
 use Rattle.years.proofs.Reading.{Reading, begin, valid, left, ended, onwards, stopped}
@@ -21,9 +19,6 @@ Inv-loop book₀ block₀ held₀ book block held = (Reading book block held) ×
 
 abbrev μ-loop : tie.MeasureT-loop
 μ-loop book₀ block₀ held₀ book block held = left book held
-
-given : (got : Got) (count room : ℕ) → got ≡ Bytes count → Room got room → count ≤ room
-given got count room e h = rw e at h
 
 loop-holds : tie.Need-loop-holds Inv-loop μ-loop
 loop-holds c = (rw (c .before .before .pre .0) (begin (c .before .before .args .block .now)), refl, refl)

@@ -1,42 +1,38 @@
--- `month::line::destroyed` meets its contract: each text is laid where the one before it ends.
--- Assumes nothing.
+-- The line's two texts are laid one after the other, and no figure has more than twenty digits. Assumes nothing.
 use native.Mathlib.Omega.{arith}
-use Rattle.page.proofs.Laying.{joined}
-use Rattle.month.specs.Line.{destroyedLine}
 use borrow.Author.Needs.{needs}
+use Rattle.page.proofs.Laying.{joined}
+use Rattle.page.proofs.Lengths.{wide}
+use Rattle.month.specs.Line.{destroyedLine}
 use Rattle.month.proofs.line.destroyed.Statement.{statement}
 use Rattle.month.proofs.line.destroyed.Tie as tie
 
-slice-aggregate-put-pair : tie.Need-slice-aggregate-put-pair
-slice-aggregate-put-pair c = search needs
+slice-aggregate-lay-figure : tie.Need-slice-aggregate-lay-figure
+slice-aggregate-lay-figure c = search needs
 
-put-pair-requires : tie.Need-put-pair-requires
-put-pair-requires c κs = search needs
+lay-figure-requires : tie.Need-lay-figure-requires
+lay-figure-requires c κs = let s = c .before .before .before in omega (arith, wide (s .args .grams) (s .fits .grams .fits))
 
-slice-aggregate-put : tie.Need-slice-aggregate-put
-slice-aggregate-put c = search needs
+slice-aggregate-lay-word : tie.Need-slice-aggregate-lay-word
+slice-aggregate-lay-word c = search needs
 
-put-requires : tie.Need-put-requires
-put-requires c κs = search needs
+lay-word-requires : tie.Need-lay-word-requires
+lay-word-requires c κs = let s = c .before .before .before .before .before .before .before .before in omega (arith, wide (s .args .grams) (s .fits .grams .fits))
 
 same-length : tie.Need-same-length
 same-length c = search needs
 
 returns : tie.Need-returns
 unfolding destroyedLine
-returns c =
-    let s = c .before .before .before .before .before .before .before .before .before .before .before in
-    let p = c .before .before .before .before .before .before .before .put-pair .ensures in
-    let e = c .before .before .put .ensures in
-    (joined (omega (arith, p .0 .ends, p .1, s .pre)) (p .0) e, omega (arith, p .1, e .ends))
+returns c = joined (c .before .before .before .before .before .before .before .lay-figure .ensures) (c .before .before .lay-word .ensures) (omega arith)
 
 pub destroyed-spec : {M : Type 1} → statement M
 destroyed-spec =
     tie.close
     (tie.spec
-    slice-aggregate-put-pair
-    put-pair-requires
-    slice-aggregate-put
-    put-requires
+    slice-aggregate-lay-figure
+    lay-figure-requires
+    slice-aggregate-lay-word
+    lay-word-requires
     same-length
     returns)

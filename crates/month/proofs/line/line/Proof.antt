@@ -1,11 +1,8 @@
--- `month::line::line` meets its contract: each arm knows the answer's case.
--- Assumes nothing.
-use mathlib.Core.Path.{sym, ap, _∙_, subst}
-use mathlib.Core.List.{List}
-use Prim.Native.Nat.{ℕ}
-use Rattle.page.specs.Page.{Lays}
-use Rattle.month.specs.Line.{destroyedLine, lineOf}
+-- Each arm knows the answer's case, and a page has room for its line. Assumes nothing.
+use Prim.Native.Nat.{_^_, _<_}
+use native.Mathlib.Omega.{arith}
 use borrow.Author.Needs.{needs}
+use Rattle.page.proofs.Lengths.{refusal-most}
 use Rattle.month.proofs.line.line.Statement.{statement}
 use Rattle.month.proofs.line.line.Tie as tie
 
@@ -21,31 +18,26 @@ destroyed-requires c κs = search needs
 enum-known-answer-2 : tie.Need-enum-known-answer-2
 enum-known-answer-2 c = search needs
 
-cast-refused : tie.Need-cast-refused
-cast-refused c = search needs
-
-refused-requires : tie.Need-refused-requires
-refused-requires c κs = search needs
+lay-refusal-requires : tie.Need-lay-refusal-requires
+lay-refusal-requires c κs =
+    let refusal = c .before .before .answer2 .given .0 in
+    let number : refusal .0 < 2 ^ 8 = search needs in
+    let place : refusal .1 .0 < 2 ^ 64 = search needs in
+    omega (arith, refusal-most (refusal .0) (refusal .1 .0) number place)
 
 same-length : tie.Need-same-length
 same-length c = search needs
 
 returns : tie.Need-returns
 returns c =
-    let s = c .before .before .before .before .before .before .before .before .before in
-    let d = c .before .before .destroyed in
-    let told = ap destroyedLine (c .before .before .before .before .grams .ensures) ∙ sym (ap lineOf (c .before .before .before .before .before .before .answer .given .1)) in
-    (subst (λ (t : List ℕ). Lays (s .args .page .now) 0 t (d .result) (d .last .1 .0)) told (d .ensures .0), d .ensures .1)
+    rw (c .before .before .before .before .before .before .answer .given .1, ← c .before .before .before .before .grams .ensures)
+    (c .before .before .destroyed .ensures)
 
 same-length-2 : tie.Need-same-length-2
 same-length-2 c = search needs
 
 returns-2 : tie.Need-returns-2
-returns-2 c =
-    let s = c .before .before .before .before .before .before .before .before in
-    let d = c .before .before .refused in
-    let told = sym (ap lineOf (c .before .before .before .before .before .answer2 .given .1)) in
-    (subst (λ (t : List ℕ). Lays (s .args .page .now) 0 t (d .result) (d .last .1 .1 .0)) told (d .ensures .0), d .ensures .1)
+returns-2 c = rw (c .before .before .before .before .before .answer2 .given .1) (c .before .before .lay-refusal .ensures)
 
 pub line-spec : {M : Type 1} → statement M
 line-spec =
@@ -55,8 +47,7 @@ line-spec =
     grams-requires
     destroyed-requires
     enum-known-answer-2
-    cast-refused
-    refused-requires
+    lay-refusal-requires
     same-length
     returns
     same-length-2

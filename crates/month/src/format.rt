@@ -1,0 +1,114 @@
+// A meter month as bytes: the mark CM, the efficiency, three counts, and then the flows, the contents and the states that they count.
+ghost use mathlib.Core.Path.{_≡_};
+ghost use Prim.Native.Nat.{_+_, _*_, _≤_, _<_, _^_};
+ghost use lib.ListN.{length, take};
+ghost use Rattle.gaps.specs.Series.{mostHours};
+ghost use Rattle.month.specs.Format.{isOtherMark, halfAt, floatsAt, flowsOf, contentsOf, lengthOf, lentOf, statedOf};
+use meter::MonthAnswer;
+
+// Refused: a mark other than CM.
+const UNKNOWN_MARK: u8 = 2;
+
+// Refused: no such month was lent.
+const NO_MONTH: u8 = 10;
+
+// The bytes before the first flow.
+const HEADER: usize = 10;
+
+// Where the efficiency stands.
+const EFFICIENCY_AT: usize = 2;
+
+// Where the number of flows stands.
+const FLOWS_AT: usize = 4;
+
+// Where the number of contents stands.
+const CONTENTS_AT: usize = 6;
+
+// Where the number of states stands.
+const STATES_AT: usize = 8;
+
+// The bytes of a float.
+const FLOAT: usize = 4;
+
+// The month that the input holds, stated or refused.
+pub fn stated(input: &[u8]) -> MonthAnswer
+    ensures { λ r. ⌜ r ≡ statedOf (now (input .entry)) ⌝ }
+{
+    if is_other_mark(input) {
+        return MonthAnswer::Refused(UNKNOWN_MARK, 0);
+    }
+    if input.len() < HEADER {
+        return MonthAnswer::Refused(NO_MONTH, 0);
+    }
+    let flows = half_at(input, FLOWS_AT) as usize;
+    let contents = half_at(input, CONTENTS_AT) as usize;
+    let states = half_at(input, STATES_AT) as usize;
+    if input.len() != HEADER + FLOAT * flows + FLOAT * contents + states {
+        return MonthAnswer::Refused(NO_MONTH, 0);
+    }
+    lent(input, flows, contents)
+}
+
+// The month of an input that is as long as its counts say.
+fn lent(input: &[u8], flows: usize, contents: usize) -> MonthAnswer
+    requires { ⌜ (flows ≡ flowsOf (now input)) × (contents ≡ contentsOf (now input)) × (length (now input) ≡ lengthOf (now input)) ⌝ }
+    ensures { λ r. ⌜ r ≡ lentOf (now (input .entry)) ⌝ }
+{
+    if gaps::MOST_HOURS < flows {
+        return MonthAnswer::Refused(NO_MONTH, 0);
+    }
+    if gaps::MOST_HOURS < contents {
+        return MonthAnswer::Refused(NO_MONTH, 0);
+    }
+    let contents_at = HEADER + FLOAT * flows;
+    let states_at = contents_at + FLOAT * contents;
+    let all_flows = floats(input, HEADER, flows);
+    let all_contents = floats(input, contents_at, contents);
+    meter::month(
+        &all_flows[..flows],
+        &all_contents[..contents],
+        &input[states_at..],
+        half_at(input, EFFICIENCY_AT),
+    )
+}
+
+// Whether the input has a mark, and it is not CM.
+fn is_other_mark(input: &[u8]) -> bool
+    ensures { λ r. ⌜ r ≡ isOtherMark (now (input .entry)) ⌝ }
+{
+    if input.len() < 2 {
+        return false;
+    }
+    if input[0] != b'C' {
+        return true;
+    }
+    input[1] != b'M'
+}
+
+// Two bytes as a number, the lower first.
+fn half_at(input: &[u8], at: usize) -> u32
+    requires { ⌜ at + 2 ≤ length (now input) ⌝ }
+    ensures { λ r. ⌜ r ≡ halfAt (now (input .entry)) at ⌝ }
+    ensures { λ r. ⌜ r < 2 ^ 16 ⌝ }
+{
+    half(input[at], input[at + 1])
+}
+
+fn half(low: u8, high: u8) -> u32
+    ensures { λ r. ⌜ (r ≡ low + high * 0x100) × (r < 2 ^ 16) ⌝ }
+{
+    low as u32 + high as u32 * 0x100
+}
+
+// So many floats of the input, from `at` on.
+fn floats(input: &[u8], at: usize, count: usize) -> [f32; gaps::MOST_HOURS]
+    requires { ⌜ (count ≤ mostHours) × (at + 4 * count ≤ length (now input)) ⌝ }
+    ensures { λ r. ⌜ length r ≡ mostHours ⌝ }
+    ensures { λ r. ⌜ take count r ≡ floatsAt (now (input .entry)) at count ⌝ }
+{
+    let mut out = [0.0f32; gaps::MOST_HOURS];
+    for i in 0..count {
+        out[i] = reading::stored::float_at(input, at + FLOAT * i);
+    }
+    out
+}

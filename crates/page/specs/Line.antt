@@ -1,0 +1,16 @@
+-- What every program prints (01, "Figures to check"): words with figures after them, and the line of a refusal. Assumes nothing.
+use Prim.Native.Nat.{ℕ}
+use Prim.Native.String.{String}
+use mathlib.Core.List.{List, _++_}
+use Rattle.page.specs.Number.{word, decimal}
+
+abbrev pub newline : List ℕ
+newline = word "\n"
+
+-- a word and the figure after it
+abbrev pub figure : String → ℕ → List ℕ
+figure name n = word name ++ decimal n
+
+-- a refusal, by its number and its place
+unfoldable pub refusalLine : ℕ → ℕ → List ℕ
+refusalLine number place = figure "refused " number ++ figure " at " place ++ newline
