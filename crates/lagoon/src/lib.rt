@@ -39,8 +39,8 @@ pub struct Outcome {
     pub removed: Solids,
 }
 
-// What stands in a line's lagoon as a month begins: what the month before handed on. Only `empty` and
-// `month` make one, so no balance stands that a month did not hand on.
+// What stands in a line's lagoon as a month begins: what the month before handed on. `empty` and `month`
+// make one; `of` takes up again what a month handed on, kept as solids between one year and the next.
 pub struct Standing(Solids);
 
 impl Standing {
@@ -49,6 +49,12 @@ impl Standing {
         ensures { λ r. ⌜ r ≡ emptyOf ⌝ }
     {
         Standing(Solids::of_grams(0))
+    }
+
+    pub fn of(carried: Solids) -> Self
+        ensures { λ r. ⌜ r .0 ≡ carried ⌝ }
+    {
+        Standing(carried)
     }
 
     pub fn carried(self) -> Solids

@@ -1,5 +1,5 @@
 -- The walk over the years: what is laid, and what the later years print, are together what is printed. Assumes nothing.
-use mathlib.Core.Path.{_≡_, refl, sym, ap, _∙_}
+use mathlib.Core.Path.{_≡_, refl, sym, ap, subst, _∙_}
 use mathlib.Core.List.{List, [], _++_, append-assoc, append-nil}
 use Prim.Native.Nat.{ℕ, suc, _+_, _*_, _-_, _≤_, _<_}
 use native.Mathlib.Omega.{arith}
@@ -7,7 +7,11 @@ use lib.ListN.{length}
 use Rattle.year.specs.declared.Figures.{Figures}
 use Rattle.year.specs.declared.Answer.{Answer}
 use Rattle.year.specs.declared.Answer.the-variants.{Stated, Refused}
-use Rattle.year.specs.Answer.{answerOf}
+use Rattle.year.specs.declared.complete.Completeness.the-variants.{Complete}
+use Rattle.year.specs.Answer.{answerOf, carriedPast}
+use Rattle.year.specs.Complete.{completeOf, AfterComplete}
+use Rattle.year.specs.Lines.{carriedAfter}
+use Rattle.year.proofs.Answers.{stated-complete}
 use Rattle.page.specs.Page.{Lays}
 use Rattle.page.specs.Line.{refusalLine}
 use Rattle.page.proofs.Laying.{joined, laid-length, laid-none}
@@ -65,6 +69,17 @@ module _ {book start page : List ℕ} {year at : ℕ} (w : Walked book start yea
   unfolding answerLines
   refused {number} {place} {end} {after} d x =
       rw (answered ∙ ap (λ (a : Answer). w .text ++ answerLines year a (from book (year + 1))) d) (joined (w .lays) x (omega arith))
+
+  -- the walk goes on from the year that was stated
+  module _ {f : Figures} (d : answer ≡ Stated f) where
+    next : year ≡ year + 1 - 1
+    next = omega arith
+
+    pub carried-next : {carried : List ℕ} → carried ≡ carriedPast book year answer → carried ≡ carriedAfter book (year + 1 - 1)
+    carried-next is = is ∙ ap (carriedPast book year) d ∙ ap (carriedAfter book) next
+
+    pub complete-next : AfterComplete book (year + 1)
+    complete-next later = subst (λ (y : ℕ). completeOf book y ≡ Complete) next (stated-complete book year (sym e ∙ d))
 
 pub ended : {book start page : List ℕ} {year at : ℕ} → Walked book start year at page → years < year → Lays start 0 (printed book) at page
 unfolding from yearsFrom

@@ -26,9 +26,10 @@ pub fn lay_years(book: &[u8], page: &mut [u8]) -> usize
     requires { ⌜ (Valid (now book)) × (pageBytes ≤ length (now page)) ⌝ }
     ensures { λ r. ⌜ Lays (now (page .entry)) 0 (printed (now (book .entry))) r (now (page .exit)) ⌝ }
 {
+    let mut carried = [0u64; year::LINES];
     let mut at = 0;
     for year in 1..=YEARS {
-        match year::year(book, year) {
+        match year::year_after(book, year, &mut carried) {
             Answer::Stated(figures) => {
                 at = lay_year(page, at, year, figures);
             }

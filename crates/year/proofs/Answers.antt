@@ -45,21 +45,25 @@ module _ (book : List ℕ) (year : ℕ) where
     pub lacking-is : {lacking place : ℕ} → found ≡ Lacking lacking → place ≡ placeOf found → Refused 8 place ≡ answerOf book year
     lacking-is e place-is = ap (Refused 8) (place-is ∙ ap placeOf e) ∙ answer e
 
-    module _ (complete : found ≡ Complete) {over : ℕ} (over-found : over ≡ overOf book) where
-      abbrev stated : Answer
-      stated = cond (passes book year) (Refused 12 0) (Stated (figuresOf book year))
+    pub complete-is : found ≡ Complete → {whole : Answer} → whole ≡ wholeYear book year → whole ≡ answerOf book year
+    complete-is e is = is ∙ answer e
 
-      by-over : cond (leb over categories) (Refused 7 over) stated ≡ answerOf book year
-      unfolding wholeYear
-      by-over = ap (λ (k : ℕ). cond (leb k categories) (Refused 7 k) stated) over-found ∙ answer complete
+  -- a year that has its records
+  module _ {over : ℕ} (over-found : over ≡ overOf book) where
+    abbrev stated : Answer
+    stated = cond (passes book year) (Refused 12 0) (Stated (figuresOf book year))
 
-      pub over-is : over ≤ categories → Refused 7 over ≡ answerOf book year
-      over-is h = sym (ap (λ (b : Bool). cond b (Refused 7 over) stated) (le-leb over categories h)) ∙ by-over
+    by-over : cond (leb over categories) (Refused 7 over) stated ≡ wholeYear book year
+    unfolding wholeYear
+    by-over = ap (λ (k : ℕ). cond (leb k categories) (Refused 7 k) stated) over-found
 
-      pub stated-is : Valid book → {figures : Figures} → categories < over → figures ≡ figuresOf book year → Stated figures ≡ answerOf book year
-      stated-is v h figures-are =
-          ap Stated figures-are ∙ sym (ap (λ (b : Bool). cond b (Refused 12 0) (Stated (figuresOf book year))) (never book v year period)) ∙
-          sym (ap (λ (b : Bool). cond b (Refused 7 over) stated) (lt-leb over categories h)) ∙ by-over
+    pub over-is : over ≤ categories → Refused 7 over ≡ wholeYear book year
+    over-is h = sym (ap (λ (b : Bool). cond b (Refused 7 over) stated) (le-leb over categories h)) ∙ by-over
+
+    pub stated-is : Valid book → InPeriod year → {figures : Figures} → categories < over → figures ≡ figuresOf book year → Stated figures ≡ wholeYear book year
+    stated-is v period h figures-are =
+        ap Stated figures-are ∙ sym (ap (λ (b : Bool). cond b (Refused 12 0) (Stated (figuresOf book year))) (never book v year period)) ∙
+        sym (ap (λ (b : Bool). cond b (Refused 7 over) stated) (lt-leb over categories h)) ∙ by-over
 
 -- refusal 12 is no answer of a valid book, whatever the year
 not-twelve : (b : Bool) (k place : ℕ) (figures : Figures) → cond b (Refused 7 k) (Stated figures) ≡ Refused 12 place → ⊥
@@ -88,3 +92,18 @@ module _ (book : List ℕ) (v : Valid book) (year place : ℕ) where
   pub no-twelve : answerOf book year ≡ Refused 12 place → ⊥
   unfolding answerOf
   no-twelve = by-year (ltb year firstYear) (ltb lastYear year) refl refl
+
+-- a year that is stated was complete
+by-found : (book : List ℕ) (year : ℕ) {figures : Figures} (found : Completeness) → byComplete book year found ≡ Stated figures → found ≡ Complete
+by-found book year (Lacking place) e = let z : _≡_ {A = ℕ} 0 1 = cc in absurd (omega arith)
+by-found book year Complete e = refl
+
+by-period :
+    (book : List ℕ) (year : ℕ) {figures : Figures} (outside : Bool) →
+    cond outside (Refused 9 0) (byComplete book year (completeOf book year)) ≡ Stated figures → completeOf book year ≡ Complete
+by-period book year true e = let z : _≡_ {A = ℕ} 0 1 = cc in absurd (omega arith)
+by-period book year false e = by-found book year (completeOf book year) e
+
+pub stated-complete : (book : List ℕ) (year : ℕ) {figures : Figures} → answerOf book year ≡ Stated figures → completeOf book year ≡ Complete
+unfolding answerOf
+stated-complete book year e = by-period book year (ltb year firstYear || ltb lastYear year) e

@@ -3,19 +3,20 @@
 use Prim.Native.Nat.{ℕ, zero, suc, _+_, _*_, _-_, _^_, _≤_, _<_}
 use mathlib.Core.Bool.{Bool, true, false, cond}
 use mathlib.Core.List.{List}
-use mathlib.Core.Path.{subst, _≡_, _∙_}
+use mathlib.Core.Path.{sym, ap, subst, _≡_, _∙_}
 use native.Mathlib.Nat.{mul-le-mul, suc-mul, not-suc-le-zero}
 use native.Mathlib.Omega.{arith}
 use lib.Dec.{eqb}
-use lib.ListN.{getD}
+use lib.ListN.{length, getD}
 use Rattle.laws.proofs.Counting.{sum-most}
 use Rattle.units.specs.Grams.{potential, b0RuleOf}
 use Rattle.units.specs.declared.solids.Solids.{Solids}
 use Rattle.calendar.specs.Days.{monthsInYear}
 use Rattle.lagoon.proofs.Conserved.{conserved, entered-at-most}
-use Rattle.lagoon.specs.Asks.{enteredMost}
+use Rattle.lagoon.specs.Asks.{enteredMost, RunFits}
 use Rattle.lagoon.specs.Month.{million, emptyOf}
-use Rattle.lagoon.specs.Run.{runOf, after, yearOf, monthsOf}
+use Rattle.lagoon.specs.Run.{runFrom, runOf, after, yearOf, monthsOf}
+use Rattle.lagoon.specs.declared.Standing.{Standing}
 use Rattle.lagoon.specs.declared.Totals.{Totals}
 use Rattle.keys.specs.Table.{lines, categories, months, devices}
 use Rattle.book.specs.Valid.{Valid}
@@ -23,12 +24,13 @@ use Rattle.slots.specs.Reads.{systemOf, lineOf, drainedOf, destroyedOf}
 use Rattle.slots.specs.declared.Line.{Line}
 use Rattle.slots.specs.declared.Seen.{Seen}
 use Rattle.slots.specs.declared.Seen.the-variants.{Nothing, Value}
-use Rattle.year.specs.Asks.{InPeriod, Holds, ArraysFit, LineRanged, headsMost, SumsFit, OperatorFits}
+use Rattle.year.specs.Asks.{InPeriod, Holds, LineRanged, headsMost, SumsFit, OperatorFits}
 use Rattle.year.specs.Credit.{destroyedAt, operatorAt, together, operatorOver}
 use Rattle.year.specs.Lines.{anaerobic, anaerobicOf, headsOf, dailyOf, daysInYear, convertedOf, otherOf, bySystem, lineIn, sumsOver, all}
 use Rattle.year.specs.Series.{amountOf, monthsBefore, factorAt, headAt, enteredAt, monthAt}
 use Rattle.year.specs.declared.credit.Operator.{Operator}
 use Rattle.year.specs.declared.lines.Sums.{Sums}
+use Rattle.year.proofs.SameMonths.{same-run, standing-most}
 use Rattle.year.proofs.Ranges.{factor-most, line-ranged, head-most, entry-most, methane-most, baseline-most, project-most, destroyed-most}
 
 -- the most that any figure of one line in a year can be
@@ -96,36 +98,53 @@ module _ (book : List ℕ) (v : Valid book) (line : ℕ) (there : line ≤ lines
       let high = period .high in
       record { entered = omega arith; degraded = omega arith; removed = omega arith; carried = omega arith }
 
-  -- the arrays that the code fills from the book
-  module _ (n : ℕ) (within : n ≤ months) {entered factors : List ℕ} {drained : List Bool}
-      (entered-held : Holds ℕ 0 n (λ m. enteredAt book line m .0) entered) (factors-held : Holds ℕ 0 n (factorAt book) factors)
-      (drained-held : Holds Bool false n (drainedOf book line) drained) where
-    entry-at : (i : ℕ) → i < n → getD entered i 0 ≤ enteredMost
+  -- the arrays of a year that the code fills from the book
+  module _ (year : ℕ) (period : InPeriod year) {entered factors : List ℕ} {drained : List Bool}
+      (entered-held : Holds ℕ 0 (monthsBefore year) monthsInYear (λ m. enteredAt book line m .0) entered)
+      (factors-held : Holds ℕ 0 (monthsBefore year) monthsInYear (factorAt book) factors)
+      (drained-held : Holds Bool false (monthsBefore year) monthsInYear (drainedOf book line) drained)
+      {from : Standing} (handed-on : from ≡ runOf (monthAt book line) (monthsBefore year) .standing) where
+    entry-at : (i : ℕ) → i < monthsInYear → getD entered i 0 ≤ enteredMost
     entry-at i below =
         let e : i + 1 - 1 ≡ i = omega arith in
         subst (λ (k : ℕ). getD entered k 0 ≤ enteredMost) e
-        (rw (entered-held .each (i + 1) (omega arith) (omega arith)) (entry-most book v line (i + 1) there (omega arith)))
+        (rw (entered-held .each (i + 1) (omega arith) (omega arith)) (entry-most book v line (monthsBefore year + (i + 1)) there (omega (arith, period .high))))
 
-    factor-at : (i : ℕ) → i < n → getD factors i 0 ≤ million
+    factor-at : (i : ℕ) → i < monthsInYear → getD factors i 0 ≤ million
     factor-at i below =
         let e : i + 1 - 1 ≡ i = omega arith in
         subst (λ (k : ℕ). getD factors k 0 ≤ million) e
-        (rw (factors-held .each (i + 1) (omega arith) (omega arith)) (factor-most book (i + 1)))
+        (rw (factors-held .each (i + 1) (omega arith) (omega arith)) (factor-most book (monthsBefore year + (i + 1))))
 
-    pub arrays-fit : ArraysFit n entered factors drained
+    carried-most : from .0 .0 ≤ monthsBefore year * enteredMost
+    carried-most =
+        rw handed-on
+        (omega (
+          arith,
+          standing-most emptyOf (monthAt book line) (monthsBefore year) (λ m low high. month-factor m)
+              (λ m low high. month-entered m (omega (arith, period .high))),
+        ))
+
+    pub arrays-fit : RunFits from entered factors drained
     arrays-fit =
         record {
-          within = within;
-          entered-long = entered-held .long;
-          factors-long = factors-held .long;
-          drained-long = drained-held .long;
-          entry = entry-at;
-          factor = factor-at;
+          room = rw (entered-held .long) (omega (arith, carried-most, period .high));
+          entry = λ i below. entry-at i (omega (arith, entered-held .long));
+          factor = λ i below. factor-at i (omega (arith, entered-held .long));
+          factors-long = factors-held .long ∙ sym (entered-held .long);
+          drained-long = drained-held .long ∙ sym (entered-held .long);
         }
 
-    pub array-month : (m : ℕ) → 1 ≤ m → m ≤ n → monthsOf entered factors drained m ≡ monthAt book line m
+    array-month : (m : ℕ) → 1 ≤ m → m ≤ monthsInYear → monthsOf entered factors drained m ≡ after (monthsBefore year) (monthAt book line) m
     unfolding monthAt
     array-month m low high = rw (entered-held .each m low high, factors-held .each m low high, drained-held .each m low high)
+
+    pub year-run : {totals : Totals} → totals ≡ runFrom from (monthsOf entered factors drained) (length entered) → totals ≡ yearOf (monthAt book line) year
+    unfolding yearOf
+    year-run is =
+        is ∙ ap (runFrom from (monthsOf entered factors drained)) (entered-held .long) ∙
+        same-run from (monthsOf entered factors drained) (after (monthsBefore year) (monthAt book line)) monthsInYear array-month ∙
+        ap (λ (s : Standing). runFrom s (after (monthsBefore year) (monthAt book line)) monthsInYear) handed-on
 
 by-most : (seen : Seen) (lagoon other : Sums) → Most lineMost lagoon → Most lineMost other → Most lineMost (bySystem seen lagoon other)
 by-most Nothing lagoon other l o = record { entered = omega arith; degraded = omega arith; removed = omega arith; carried = omega arith; baseline = omega arith }

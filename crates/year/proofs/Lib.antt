@@ -4,7 +4,11 @@ pub mod Arrays
 pub mod SameMonths
 pub mod Bounds
 pub mod BySystem
+pub mod Carrying
+pub mod Passing
 pub mod Lacking
+pub mod Lined
+pub mod Sharing
 pub mod Signs
 pub mod Never
 pub mod Answers

@@ -29,6 +29,9 @@ amount-most least most (Value x) i = i .1
 value-most : (least most : ℕ) (seen : Seen) (x : ℕ) → seen ≡ Value x → In least most seen → x ≤ most
 value-most least most seen x e i = subst (In least most) e i .1
 
+value-least : (least most : ℕ) (seen : Seen) (x : ℕ) → seen ≡ Value x → In least most seen → least ≤ x
+value-least least most seen x e i = subst (In least most) e i .0
+
 factor-by-most : (warmth : Warmth) → factorBy warmth ≤ million
 factor-by-most Unknown = omega arith
 factor-by-most (Tenths tenths) = factor.most tenths
@@ -51,6 +54,12 @@ module _ (book : List ℕ) (v : Valid book) where
 
   pub category-most : (line x : ℕ) → line ≤ lines → categoryOf book line ≡ Value x → x ≤ categories
   category-most line x h e = value-most 1 categories (categoryOf book line) x e (line-in book v line h category (lit≤ tt) tt)
+
+  pub category-least : (line x : ℕ) → line ≤ lines → categoryOf book line ≡ Value x → 1 ≤ x
+  category-least line x h e = value-least 1 categories (categoryOf book line) x e (line-in book v line h category (lit≤ tt) tt)
+
+  pub category-amount : (line : ℕ) → line ≤ lines → amountOf (categoryOf book line) ≤ categories
+  category-amount line h = amount-most 1 categories (categoryOf book line) (line-in book v line h category (lit≤ tt) tt)
 
   pub line-ranged : (line : ℕ) → line ≤ lines → LineRanged (lineOf book line)
   line-ranged line h =

@@ -1,5 +1,5 @@
 -- The year's answer: refusals 9, 8, 7 and 12 in this order, or the figures (01, "Refusal numbers", "The year").
-use Prim.Native.Nat.{ℕ, _^_}
+use Prim.Native.Nat.{ℕ, _-_, _^_}
 use mathlib.Core.Bool.{Bool, false, cond, _||_}
 use mathlib.Core.List.{List, [], _∷_}
 use lib.Dec.{ltb, leb}
@@ -8,7 +8,7 @@ use Rattle.laws.specs.Counting.{some}
 use Rattle.keys.specs.Table.{categories}
 use Rattle.year.specs.Complete.{completeOf}
 use Rattle.year.specs.Credit.{operatorOf, modelledOf, meteredOf, totalOf, figuresOf}
-use Rattle.year.specs.Lines.{headsOf, all, sumsOf}
+use Rattle.year.specs.Lines.{headsOf, all, sumsOf, carriedAfter}
 use Rattle.year.specs.Shares.{overOf}
 use Rattle.year.specs.declared.Answer.{Answer}
 use Rattle.year.specs.declared.Answer.the-variants.{Stated, Refused}
@@ -59,3 +59,8 @@ byComplete book year Complete = wholeYear book year
 -- refusal 9, or what follows
 unfoldable pub answerOf : List ℕ → ℕ → Answer
 answerOf book year = cond (ltb year firstYear || ltb lastYear year) (Refused 9 0) (byComplete book year (completeOf book year))
+
+-- what each line carries past a year that was answered: past the year's end where it is stated, and past the end of the year before where it is refused
+abbrev pub carriedPast : List ℕ → ℕ → Answer → List ℕ
+carriedPast book year (Stated figures) = carriedAfter book year
+carriedPast book year (Refused number place) = carriedAfter book (year - 1)

@@ -1,17 +1,21 @@
 -- What the functions ask of their callers, so that no product or sum passes 64 bits, and what they hand each other to be worked out once.
 -- They say nothing of what the figures are.
-use Prim.Native.Nat.{ℕ, _*_, _-_, _≤_, _<_, _^_}
-use mathlib.Core.Bool.{Bool}
+use Prim.Native.Nat.{ℕ, _+_, _*_, _-_, _≤_, _<_, _^_}
+use mathlib.Core.Bool.{Bool, true, false}
 use mathlib.Core.List.{List}
 use mathlib.Core.Path.{_≡_}
 use lib.ListN.{length, getD}
+use Rattle.laws.specs.Counting.{sum}
 use Rattle.calendar.specs.Days.{monthsInYear}
-use Rattle.lagoon.specs.Asks.{enteredMost}
-use Rattle.lagoon.specs.Month.{million}
-use Rattle.keys.specs.Table.{months}
+use Rattle.keys.specs.Table.{categories}
+use Rattle.slots.specs.Reads.{categoryOf, lineOf}
 use Rattle.slots.specs.declared.Line.{Line}
+use Rattle.slots.specs.declared.Seen.the-variants.{Value}
 use Rattle.year.specs.Answer.{firstYear, lastYear}
+use Rattle.year.specs.Complete.{lacks}
 use Rattle.year.specs.Credit.{meteredOf}
+use Rattle.year.specs.Series.{monthsThrough}
+use Rattle.year.specs.Shares.{shareIn}
 use Rattle.year.specs.declared.credit.Operator.{Operator}
 use Rattle.year.specs.declared.lines.Sums.{Sums}
 
@@ -20,10 +24,33 @@ pub record InPeriod (year : ℕ) : Type 0 where
   pub low : firstYear ≤ year
   pub high : year ≤ lastYear
 
--- an array of the months has the first n of a series
-pub record Holds (A : Type 0) (none : A) (n : ℕ) (series : ℕ → A) (array : List A) : Type 0 where
-  pub long : length array ≡ months
-  pub each : (m : ℕ) → 1 ≤ m → m ≤ n → getD array (m - 1) none ≡ series m
+-- the first months, so many, lack nothing that the year needs
+pub record LackNothing (book : List ℕ) (year passed : ℕ) : Type 0 where
+  pub within : passed ≤ monthsThrough year
+  pub each : (m : ℕ) → 1 ≤ m → m ≤ passed → lacks book year m ≡ false
+
+-- a line of a category, among lines 1 to n
+pub record LineIn (book : List ℕ) (n category : ℕ) : Type 0 where
+  pub line : ℕ
+  pub low : 1 ≤ line
+  pub high : line ≤ n
+  pub its : categoryOf book line ≡ Value category
+
+-- flags by the categories' numbers, of those that have one of lines 1 to n
+pub record Lined (book : List ℕ) (n : ℕ) (flags : List Bool) : Type 0 where
+  pub long : length flags ≡ categories + 1
+  pub has : (category : ℕ) → 1 ≤ category → getD flags category false ≡ true → LineIn book n category
+  pub all : (line category : ℕ) → 1 ≤ line → line ≤ n → categoryOf book line ≡ Value category → getD flags category false ≡ true
+
+-- sums by the categories' numbers, of their shares in lines 1 to n
+pub record Shared (book : List ℕ) (n : ℕ) (sums : List ℕ) : Type 0 where
+  pub long : length sums ≡ categories + 1
+  pub each : (category : ℕ) → category ≤ categories → getD sums category 0 ≡ sum n (λ line. shareIn category (lineOf book line))
+
+-- an array of a year's months, after those before it, has the first n of them of a series
+pub record Holds (A : Type 0) (none : A) (before n : ℕ) (series : ℕ → A) (array : List A) : Type 0 where
+  pub long : length array ≡ monthsInYear
+  pub each : (m : ℕ) → 1 ≤ m → m ≤ n → getD array (m - 1) none ≡ series (before + m)
 
 -- the upper ends of LN's ranges, and of the category's
 pub record LineRanged (line : Line) : Type 0 where
@@ -33,15 +60,6 @@ pub record LineRanged (line : Line) : Type 0 where
   pub share : line .share ≤ 10000
   pub b0 : line .b0 ≤ 100
   pub conversion : line .conversion ≤ 10000
-
--- arrays with the first n months: what entered, factors and drain marks
-pub record ArraysFit (n : ℕ) (entered factors : List ℕ) (drained : List Bool) : Type 0 where
-  pub within : n ≤ months
-  pub entered-long : length entered ≡ months
-  pub factors-long : length factors ≡ months
-  pub drained-long : length drained ≡ months
-  pub entry : (i : ℕ) → i < n → getD entered i 0 ≤ enteredMost
-  pub factor : (i : ℕ) → i < n → getD factors i 0 ≤ million
 
 -- the most that the twelve heads of a year can sum to
 abbrev pub headsMost : ℕ

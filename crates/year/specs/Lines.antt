@@ -1,21 +1,21 @@
 -- The lines of a year: solids of the anaerobic ones, and the baseline of all (01, "The year"; Equations 5.3 and 5.4).
 use Prim.Native.Nat.{ℕ, zero, suc, _+_, _*_, _/_}
 use mathlib.Core.Bool.{Bool, true, cond}
-use mathlib.Core.List.{List}
+use mathlib.Core.List.{List, [], _∷_, _++_}
 use lib.Dec.{eqb}
 use Rattle.laws.specs.Counting.{sum}
 use Rattle.units.specs.Grams.{solids, co2e, shareOf, potential, b0RuleOf}
 use Rattle.units.specs.declared.co2e.Co2e.{Co2e}
 use Rattle.units.specs.declared.solids.Solids.{Solids}
 use Rattle.calendar.specs.Days.{monthsInYear}
-use Rattle.lagoon.specs.Run.{yearOf}
+use Rattle.lagoon.specs.Run.{runOf, yearOf}
 use Rattle.lagoon.specs.declared.Totals.{Totals}
 use Rattle.keys.specs.Table.{lines}
 use Rattle.slots.specs.Reads.{systemOf, lineOf}
 use Rattle.slots.specs.declared.Line.{Line}
 use Rattle.slots.specs.declared.Seen.{Seen}
 use Rattle.slots.specs.declared.Seen.the-variants.{Nothing, Value}
-use Rattle.year.specs.Series.{monthsBefore, headAt, monthAt}
+use Rattle.year.specs.Series.{monthsBefore, monthsThrough, headAt, monthAt}
 use Rattle.year.specs.declared.lines.Sums.{Sums}
 
 -- LN's system 0
@@ -102,3 +102,21 @@ sumsOf book year chosen = sumsOver (lineIn book year) chosen lines
 -- the baseline, the sum over lines
 abbrev pub baselineOf : List ℕ → ℕ → (ℕ → Bool) → Co2e
 baselineOf book year chosen = sumsOf book year chosen .baseline
+
+-- what a line carries past the end of a year, in grams: the standing after the year's months, from the first, of an anaerobic line, and 0 of any other.
+-- Year 0 stands for the time before the first month, when nothing is carried.
+abbrev pub ifAnaerobic : Seen → ℕ → ℕ
+ifAnaerobic Nothing grams = 0
+ifAnaerobic (Value system) grams = cond (eqb system anaerobic) grams 0
+
+unfoldable pub carriedBy : List ℕ → ℕ → ℕ → ℕ
+carriedBy book year line = ifAnaerobic (systemOf book line) (runOf (monthAt book line) (monthsThrough year) .standing .0 .0)
+
+-- the numbers of lines 1 to n
+unfoldable pub listed : (ℕ → ℕ) → ℕ → List ℕ
+listed each zero = []
+listed each (suc n) = listed each n ++ (each (suc n) ∷ [])
+
+-- what each line carries past the end of a year
+unfoldable pub carriedAfter : List ℕ → ℕ → List ℕ
+carriedAfter book year = listed (carriedBy book year) lines

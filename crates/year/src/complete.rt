@@ -1,13 +1,13 @@
 // Refusal 8: what a year lacks.
 ghost use mathlib.Core.Path.{_≡_};
+ghost use mathlib.Core.Bool.{_&&_};
 ghost use Prim.Native.Nat.{_≤_};
-ghost use Rattle.keys.specs.Table.{lines, months};
+ghost use Rattle.keys.specs.Table.{lines, categories, months};
 ghost use Rattle.book.specs.Valid.{Valid};
-ghost use Rattle.slots.specs.Reads.{categoryOf};
+ghost use Rattle.slots.specs.declared.Seen.the-variants.{Value};
 ghost use Rattle.year.specs.Complete.{anyLine, unmeasured, uncounted, headless, lacks, lackingOf, completeOf, placeOf};
-ghost use Rattle.year.specs.Asks.{InPeriod};
+ghost use Rattle.year.specs.Asks.{InPeriod, LackNothing, Lined};
 use crate::series;
-use slots::Seen;
 use slots::Warmth;
 
 // Whether a year has its records, or the place of the refusal.
@@ -27,10 +27,15 @@ impl Completeness {
     }
 }
 
-// YR and a line are looked at first, and then each month.
-pub fn complete(book: &[u8], year: usize) -> Completeness
+// Room for a flag of each category, by its number; 0 is the number where there is no line.
+const CATEGORY_FLAGS: usize = keys::CATEGORIES + 1;
+
+// YR and a line are looked at first, and then each month after the first ones, so many, that are known
+// to lack nothing.
+pub fn complete(book: &[u8], year: usize, passed: usize) -> Completeness
     requires { ⌜ Valid (now book) ⌝ }
     requires { ⌜ InPeriod year ⌝ }
+    requires { ⌜ LackNothing (now book) year passed ⌝ }
     ensures { λ r. ⌜ r ≡ completeOf (now (book .entry)) year ⌝ }
 {
     if !series::is_filled(slots::first_year(book)) {
@@ -39,7 +44,8 @@ pub fn complete(book: &[u8], year: usize) -> Completeness
     if !any_line(book) {
         return Completeness::Lacking(0);
     }
-    let month = first_lacking(book, year);
+    let lined = lined_categories(book);
+    let month = first_lacking(book, year, passed, &lined);
     if month <= series::months_through(year) {
         return Completeness::Lacking(month as u64);
     }
@@ -58,31 +64,47 @@ fn any_line(book: &[u8]) -> bool
     false
 }
 
+// Which categories have a line: looked at once, and not again in each month.
+fn lined_categories(book: &[u8]) -> [bool; CATEGORY_FLAGS]
+    requires { ⌜ Valid (now book) ⌝ }
+    ensures { λ r. ⌜ Lined (now (book .entry)) lines r ⌝ }
+{
+    let mut lined = [false; CATEGORY_FLAGS];
+    for line in 1..=keys::LINES {
+        let category = series::amount(slots::category(book, line)) as usize;
+        lined[category] = true;
+    }
+    lined
+}
+
 // The lowest month that lacks a record, or the one past the year.
-fn first_lacking(book: &[u8], year: usize) -> usize
+fn first_lacking(book: &[u8], year: usize, passed: usize, lined: &[bool]) -> usize
     requires { ⌜ Valid (now book) ⌝ }
     requires { ⌜ InPeriod year ⌝ }
+    requires { ⌜ LackNothing (now book) year passed ⌝ }
+    requires { ⌜ Lined (now book) lines (now lined) ⌝ }
     ensures { λ r. ⌜ r ≡ lackingOf (now (book .entry)) year ⌝ }
 {
     let past = series::months_through(year) + 1;
-    for month in 1..past {
-        if is_lacking(book, year, month) {
+    for month in passed + 1..past {
+        if is_lacking(book, year, month, lined) {
             return month;
         }
     }
     past
 }
 
-fn is_lacking(book: &[u8], year: usize, month: usize) -> bool
+fn is_lacking(book: &[u8], year: usize, month: usize, lined: &[bool]) -> bool
     requires { ⌜ Valid (now book) ⌝ }
     requires { ⌜ InPeriod year ⌝ }
     requires { ⌜ month ≤ months ⌝ }
+    requires { ⌜ Lined (now book) lines (now lined) ⌝ }
     ensures { λ r. ⌜ r ≡ lacks (now (book .entry)) year month ⌝ }
 {
     if is_unmeasured(slots::temperature(book, month)) {
         return true;
     }
-    if is_headless(book, month) {
+    if is_headless(book, month, lined) {
         return true;
     }
     if month <= series::months_before(year) {
@@ -101,26 +123,27 @@ fn is_unmeasured(warmth: Warmth) -> bool
 }
 
 // Whether the category of a line has no head count in the month.
-fn is_headless(book: &[u8], month: usize) -> bool
+fn is_headless(book: &[u8], month: usize, lined: &[bool]) -> bool
     requires { ⌜ Valid (now book) ⌝ }
     requires { ⌜ month ≤ months ⌝ }
+    requires { ⌜ Lined (now book) lines (now lined) ⌝ }
     ensures { λ r. ⌜ r ≡ headless (now (book .entry)) month ⌝ }
 {
-    for line in 1..=keys::LINES {
-        if is_uncounted(book, line, month) {
+    for category in 1..=keys::CATEGORIES {
+        if is_uncounted(book, category, month, lined[category]) {
             return true;
         }
     }
     false
 }
 
-fn is_uncounted(book: &[u8], line: usize, month: usize) -> bool
+fn is_uncounted(book: &[u8], category: usize, month: usize, lined: bool) -> bool
     requires { ⌜ Valid (now book) ⌝ }
-    requires { ⌜ (line ≤ lines) × (month ≤ months) ⌝ }
-    ensures { λ r. ⌜ r ≡ uncounted (now (book .entry)) month (categoryOf (now (book .entry)) line) ⌝ }
+    requires { ⌜ (category ≤ categories) × (month ≤ months) ⌝ }
+    ensures { λ r. ⌜ r ≡ (lined && uncounted (now (book .entry)) month (Value category)) ⌝ }
 {
-    let Seen::Value(category) = slots::category(book, line) else {
+    if !lined {
         return false;
-    };
-    !series::is_filled(slots::head(book, category as usize, month))
+    }
+    !series::is_filled(slots::head(book, category, month))
 }

@@ -6,9 +6,12 @@ mod series;
 mod shares;
 
 ghost use mathlib.Core.Path.{_≡_};
+ghost use Prim.Native.Nat.{_-_};
 ghost use Rattle.book.specs.Valid.{Valid};
+ghost use Rattle.year.specs.Complete.{AfterComplete};
 ghost use Rattle.year.specs.Credit.{figuresOf};
-ghost use Rattle.year.specs.Answer.{answerOf};
+ghost use Rattle.year.specs.Lines.{carriedAfter};
+ghost use Rattle.year.specs.Answer.{answerOf, wholeYear, carriedPast};
 ghost use Rattle.year.specs.Asks.{InPeriod};
 use complete::Completeness;
 use units::Co2e;
@@ -18,6 +21,9 @@ use units::Solids;
 const FIRST_YEAR: u64 = 1;
 
 const LAST_YEAR: u64 = 10;
+
+// How many lines there are: a walk over the years carries a number for each.
+pub const LINES: usize = keys::LINES;
 
 // The refusals of a year. A sum that passes 2^63 would be refused 12; no book reaches it.
 const NO_SUCH_YEAR: u8 = 9;
@@ -59,28 +65,75 @@ pub fn year(book: &[u8], year: u64) -> Answer
         return Answer::Refused(NO_SUCH_YEAR, 0);
     }
     let counted = year as usize;
-    let found = complete::complete(book, counted);
+    let found = complete::complete(book, counted, 0);
     let Completeness::Complete = found else {
         return Answer::Refused(LACKING, found.place());
     };
+    let mut carried = carried_before(book, counted);
+    whole_year(book, counted, &mut carried)
+}
+
+// The same of a year of the period, for a walk over the years: from what each line carried past the year
+// before, which is left as what it carries past this one where the year is stated. The year before was
+// complete, so the year's own months alone are looked at.
+pub fn year_after(book: &[u8], year: u64, carried: &mut [u64]) -> Answer
+    requires { ⌜ Valid (now book) ⌝ }
+    requires { ⌜ InPeriod year ⌝ }
+    requires { ⌜ AfterComplete (now book) year ⌝ }
+    requires { ⌜ now carried ≡ carriedAfter (now book) (year - 1) ⌝ }
+    ensures { λ r. ⌜ r ≡ answerOf (now (book .entry)) year ⌝ }
+    ensures { λ r. ⌜ now (carried .exit) ≡ carriedPast (now (book .entry)) year r ⌝ }
+{
+    let counted = year as usize;
+    let found = complete::complete(book, counted, series::months_before(counted));
+    let Completeness::Complete = found else {
+        return Answer::Refused(LACKING, found.place());
+    };
+    whole_year(book, counted, carried)
+}
+
+// What each line carries past the year before: the years are walked one after the other, from empty
+// lagoons.
+fn carried_before(book: &[u8], year: usize) -> [u64; LINES]
+    requires { ⌜ Valid (now book) ⌝ }
+    requires { ⌜ InPeriod year ⌝ }
+    ensures { λ r. ⌜ r ≡ carriedAfter (now (book .entry)) (year - 1) ⌝ }
+{
+    let mut carried = [0u64; LINES];
+    for earlier in 1..year {
+        lines::sums_from(book, earlier, &mut carried);
+    }
+    carried
+}
+
+// A year that has its records.
+fn whole_year(book: &[u8], year: usize, carried: &mut [u64]) -> Answer
+    requires { ⌜ Valid (now book) ⌝ }
+    requires { ⌜ InPeriod year ⌝ }
+    requires { ⌜ now carried ≡ carriedAfter (now book) (year - 1) ⌝ }
+    ensures { λ r. ⌜ r ≡ wholeYear (now (book .entry)) year ⌝ }
+    ensures { λ r. ⌜ now (carried .exit) ≡ carriedPast (now (book .entry)) year r ⌝ }
+{
     let over = shares::over_shared(book);
     if over <= keys::CATEGORIES {
         return Answer::Refused(OVER_SHARED, over as u64);
     }
-    Answer::Stated(figures_of(book, counted))
+    Answer::Stated(figures_from(book, year, carried))
 }
 
-fn figures_of(book: &[u8], year: usize) -> Figures
+fn figures_from(book: &[u8], year: usize, carried: &mut [u64]) -> Figures
     requires { ⌜ Valid (now book) ⌝ }
     requires { ⌜ InPeriod year ⌝ }
+    requires { ⌜ now carried ≡ carriedAfter (now book) (year - 1) ⌝ }
     ensures { λ r. ⌜ r ≡ figuresOf (now (book .entry)) year ⌝ }
+    ensures { λ r. ⌜ now (carried .exit) ≡ carriedAfter (now (book .entry)) year ⌝ }
 {
-    let sums = lines::sums_of(book, year);
+    let sums = lines::sums_from(book, year, carried);
     let operator = credit::operator_of(book, year);
     let entered = sums.entered;
     let degraded = sums.degraded;
     let removed = sums.removed;
-    let carried = sums.carried;
+    let past = sums.carried;
     let baseline = sums.baseline;
     let project = operator.methane;
     let metered = operator.metered();
@@ -89,7 +142,7 @@ fn figures_of(book: &[u8], year: usize) -> Figures
         entered,
         degraded,
         removed,
-        carried,
+        carried: past,
         baseline,
         project,
         metered,

@@ -1,17 +1,18 @@
-// The lines of a year: Equation 5.3 for the anaerobic ones, month by month from the first, and Equation
-// 5.4 for the others.
+// The lines of a year: Equation 5.3 for the anaerobic ones, month by month from what the years before
+// carried on, and Equation 5.4 for the others.
 ghost use mathlib.Core.Path.{_≡_};
 ghost use mathlib.Core.Bool.{Bool, false};
-ghost use Prim.Native.Nat.{ℕ, _+_, _*_, _≤_, _<_};
+ghost use Prim.Native.Nat.{ℕ, _-_, _≤_, _<_};
+ghost use Rattle.calendar.specs.Days.{monthsInYear};
 ghost use Rattle.lagoon.specs.Month.{enteredOf};
-ghost use Rattle.lagoon.specs.Run.{runFrom, after, yearOf, monthsOf};
-ghost use Rattle.lagoon.specs.Asks.{enteredMost, gramsMost};
+ghost use Rattle.lagoon.specs.Run.{runOf, yearOf};
+ghost use Rattle.lagoon.specs.Asks.{gramsMost};
 ghost use Rattle.keys.specs.Table.{lines, categories, months};
 ghost use Rattle.book.specs.Valid.{Valid};
 ghost use Rattle.slots.specs.Reads.{lineOf, drainedOf};
-ghost use Rattle.year.specs.Series.{monthsThrough, headAt, daysAt, factorAt, enteredAt, monthAt};
-ghost use Rattle.year.specs.Lines.{nothing, baselineAlone, anaerobicOf, headsOf, convertedOf, otherOf, lineIn, plus, all, sumsOf};
-ghost use Rattle.year.specs.Asks.{InPeriod, Holds, LineRanged, ArraysFit, headsMost, SumsFit};
+ghost use Rattle.year.specs.Series.{monthsBefore, headAt, daysAt, factorAt, enteredAt, monthAt};
+ghost use Rattle.year.specs.Lines.{nothing, baselineAlone, anaerobicOf, headsOf, convertedOf, otherOf, lineIn, plus, all, sumsOf, carriedBy, carriedAfter};
+ghost use Rattle.year.specs.Asks.{InPeriod, Holds, LineRanged, headsMost, SumsFit};
 use crate::series;
 use crate::series::MONTHS_IN_YEAR;
 use lagoon::Standing;
@@ -42,29 +43,42 @@ pub struct Sums {
     pub baseline: Co2e,
 }
 
-// All lines. Days and factors are the months' alone, and worked out once.
-pub fn sums_of(book: &[u8], year: usize) -> Sums
+// All lines, from what each carried past the year before, which is left as what it carries past this
+// one. Days and factors are the months' alone, and worked out once.
+pub fn sums_from(book: &[u8], year: usize, carried: &mut [u64]) -> Sums
     requires { ⌜ Valid (now book) ⌝ }
     requires { ⌜ InPeriod year ⌝ }
+    requires { ⌜ now carried ≡ carriedAfter (now book) (year - 1) ⌝ }
     ensures { λ r. ⌜ r ≡ sumsOf (now (book .entry)) year all ⌝ }
+    ensures { λ r. ⌜ now (carried .exit) ≡ carriedAfter (now (book .entry)) year ⌝ }
 {
-    let through = series::months_through(year);
-    let days = series::days(book, through);
-    let factors = series::factors(book, through);
+    let days = series::days(book, year);
+    let factors = series::factors(book, year);
     let mut sums = Sums::nothing();
     for line in 1..=keys::LINES {
-        sums = sums.plus(line_in(book, year, line, &days, &factors));
+        let own = line_in(book, year, line, carried[line - 1], &days, &factors);
+        let past = own.carried;
+        carried[line - 1] = past.grams();
+        sums = sums.plus(own);
     }
     sums
 }
 
-// One line, by its system.
-fn line_in(book: &[u8], year: usize, line: usize, days: &[u64], factors: &[u64]) -> Sums
+// One line, by its system, from what it carried past the year before.
+fn line_in(
+    book: &[u8],
+    year: usize,
+    line: usize,
+    carried: u64,
+    days: &[u64],
+    factors: &[u64],
+) -> Sums
     requires { ⌜ Valid (now book) ⌝ }
     requires { ⌜ InPeriod year ⌝ }
     requires { ⌜ line ≤ lines ⌝ }
-    requires { ⌜ Holds ℕ 0 (monthsThrough year) (daysAt (now book)) (now days) ⌝ }
-    requires { ⌜ Holds ℕ 0 (monthsThrough year) (factorAt (now book)) (now factors) ⌝ }
+    requires { ⌜ carried ≡ carriedBy (now book) (year - 1) line ⌝ }
+    requires { ⌜ Holds ℕ 0 (monthsBefore year) monthsInYear (daysAt (now book)) (now days) ⌝ }
+    requires { ⌜ Holds ℕ 0 (monthsBefore year) monthsInYear (factorAt (now book)) (now factors) ⌝ }
     ensures { λ r. ⌜ r ≡ lineIn (now (book .entry)) year line ⌝ }
 {
     let Seen::Value(system) = slots::system(book, line) else {
@@ -72,19 +86,22 @@ fn line_in(book: &[u8], year: usize, line: usize, days: &[u64], factors: &[u64])
     };
     let numbers = slots::line_at(book, line);
     if system == ANAEROBIC {
-        let totals = solids(book, year, line, numbers, days, factors);
+        let from = Standing::of(Solids::of_grams(carried));
+        let totals = solids(book, year, line, numbers, from, days, factors);
         return Sums::anaerobic(totals, numbers.b0);
     }
     let heads = heads(book, year, numbers.category as usize);
     Sums::other(heads, numbers)
 }
 
-// The year's solids of an anaerobic line, from what it entered and when it was drained.
+// The year's solids of an anaerobic line, from what it entered and when it was drained: its twelve
+// months, from the standing that those before them handed on.
 fn solids(
     book: &[u8],
     year: usize,
     line: usize,
     numbers: Line,
+    from: Standing,
     days: &[u64],
     factors: &[u64],
 ) -> Totals
@@ -92,74 +109,36 @@ fn solids(
     requires { ⌜ InPeriod year ⌝ }
     requires { ⌜ line ≤ lines ⌝ }
     requires { ⌜ numbers ≡ lineOf (now book) line ⌝ }
-    requires { ⌜ Holds ℕ 0 (monthsThrough year) (daysAt (now book)) (now days) ⌝ }
-    requires { ⌜ Holds ℕ 0 (monthsThrough year) (factorAt (now book)) (now factors) ⌝ }
+    requires { ⌜ from ≡ runOf (monthAt (now book) line) (monthsBefore year) .standing ⌝ }
+    requires { ⌜ Holds ℕ 0 (monthsBefore year) monthsInYear (daysAt (now book)) (now days) ⌝ }
+    requires { ⌜ Holds ℕ 0 (monthsBefore year) monthsInYear (factorAt (now book)) (now factors) ⌝ }
     ensures { λ r. ⌜ r ≡ yearOf (monthAt (now (book .entry)) line) year ⌝ }
 {
-    let through = series::months_through(year);
-    let entered = entries(book, line, numbers, days, through);
-    let drained = drains(book, line, through);
-    year_after_years(year, &entered, factors, &drained)
+    let entered = entries(book, year, line, numbers, days);
+    let drained = drains(book, year, line);
+    lagoon::run(from, &entered, factors, &drained)
 }
 
-// The months before the year from an empty lagoon, and the year's twelve from the standing that they
-// hand on.
-fn year_after_years(year: usize, entered: &[u64], factors: &[u64], drained: &[bool]) -> Totals
-    requires { ⌜ InPeriod year ⌝ }
-    requires { ⌜ ArraysFit (monthsThrough year) (now entered) (now factors) (now drained) ⌝ }
-    ensures { λ r. ⌜ r ≡ yearOf (monthsOf (now (entered .entry)) (now (factors .entry)) (now (drained .entry))) year ⌝ }
-{
-    let before = series::months_before(year);
-    let earlier = months_after(Standing::empty(), entered, factors, drained, 0, before);
-    months_after(
-        earlier.standing,
-        entered,
-        factors,
-        drained,
-        before,
-        MONTHS_IN_YEAR,
-    )
-}
-
-// So many months after those that have passed, from a standing.
-fn months_after(
-    from: Standing,
-    entered: &[u64],
-    factors: &[u64],
-    drained: &[bool],
-    passed: usize,
-    count: usize,
-) -> Totals
-    requires { ⌜ ArraysFit (passed + count) (now entered) (now factors) (now drained) ⌝ }
-    requires { ⌜ from .0 .0 + count * enteredMost ≤ months * enteredMost ⌝ }
-    ensures { λ r. ⌜ r ≡ runFrom from (after passed (monthsOf (now (entered .entry)) (now (factors .entry)) (now (drained .entry)))) count ⌝ }
-{
-    let end = passed + count;
-    lagoon::run(
-        from,
-        &entered[passed..end],
-        &factors[passed..end],
-        &drained[passed..end],
-    )
-}
-
-// What a line enters, month by month, in grams.
+// What a line enters, month by month of the year, in grams.
 fn entries(
     book: &[u8],
+    year: usize,
     line: usize,
     numbers: Line,
     days: &[u64],
-    through: usize,
-) -> [u64; keys::MONTHS]
+) -> [u64; MONTHS_IN_YEAR]
     requires { ⌜ Valid (now book) ⌝ }
-    requires { ⌜ (line ≤ lines) × (through ≤ months) ⌝ }
+    requires { ⌜ InPeriod year ⌝ }
+    requires { ⌜ line ≤ lines ⌝ }
     requires { ⌜ numbers ≡ lineOf (now book) line ⌝ }
-    requires { ⌜ Holds ℕ 0 through (daysAt (now book)) (now days) ⌝ }
-    ensures { λ r. ⌜ Holds ℕ 0 through (λ m. enteredAt (now (book .entry)) line m .0) r ⌝ }
+    requires { ⌜ Holds ℕ 0 (monthsBefore year) monthsInYear (daysAt (now book)) (now days) ⌝ }
+    ensures { λ r. ⌜ Holds ℕ 0 (monthsBefore year) monthsInYear (λ m. enteredAt (now (book .entry)) line m .0) r ⌝ }
 {
-    let mut entries = [0u64; keys::MONTHS];
-    for passed in 0..through {
-        entries[passed] = entry(book, numbers, passed + 1, days[passed]).grams();
+    let before = series::months_before(year);
+    let mut entries = [0u64; MONTHS_IN_YEAR];
+    for passed in 0..MONTHS_IN_YEAR {
+        let month = before + passed + 1;
+        entries[passed] = entry(book, numbers, month, days[passed]).grams();
     }
     entries
 }
@@ -182,15 +161,17 @@ fn head(book: &[u8], category: usize, month: usize) -> u64
     series::amount(slots::head(book, category, month))
 }
 
-// When a line was drained, month by month.
-fn drains(book: &[u8], line: usize, through: usize) -> [bool; keys::MONTHS]
+// When a line was drained, month by month of the year.
+fn drains(book: &[u8], year: usize, line: usize) -> [bool; MONTHS_IN_YEAR]
     requires { ⌜ Valid (now book) ⌝ }
-    requires { ⌜ (line ≤ lines) × (through ≤ months) ⌝ }
-    ensures { λ r. ⌜ Holds Bool false through (drainedOf (now (book .entry)) line) r ⌝ }
+    requires { ⌜ InPeriod year ⌝ }
+    requires { ⌜ line ≤ lines ⌝ }
+    ensures { λ r. ⌜ Holds Bool false (monthsBefore year) monthsInYear (drainedOf (now (book .entry)) line) r ⌝ }
 {
-    let mut drains = [false; keys::MONTHS];
-    for passed in 0..through {
-        drains[passed] = slots::drained(book, line, passed + 1);
+    let before = series::months_before(year);
+    let mut drains = [false; MONTHS_IN_YEAR];
+    for passed in 0..MONTHS_IN_YEAR {
+        drains[passed] = slots::drained(book, line, before + passed + 1);
     }
     drains
 }

@@ -1,7 +1,7 @@
 // What a book says of its months.
 ghost use mathlib.Core.Path.{_≡_};
-ghost use Prim.Native.Nat.{ℕ, _≤_};
-ghost use Rattle.calendar.specs.Days.{daysOf};
+ghost use Prim.Native.Nat.{ℕ, _+_, _≤_};
+ghost use Rattle.calendar.specs.Days.{monthsInYear, daysOf};
 ghost use Rattle.keys.specs.Table.{months};
 ghost use Rattle.book.specs.Valid.{Valid};
 ghost use Rattle.year.specs.Series.{filled, amountOf, monthsBefore, monthsThrough, daysAt, factorAt, factorBy};
@@ -44,38 +44,40 @@ pub fn months_through(year: usize) -> usize
     MONTHS_IN_YEAR * year
 }
 
-// The days of the first months, so many.
-pub fn days(book: &[u8], through: usize) -> [u64; keys::MONTHS]
+// The days of the year's months.
+pub fn days(book: &[u8], year: usize) -> [u64; MONTHS_IN_YEAR]
     requires { ⌜ Valid (now book) ⌝ }
-    requires { ⌜ through ≤ months ⌝ }
-    ensures { λ r. ⌜ Holds ℕ 0 through (daysAt (now (book .entry))) r ⌝ }
+    requires { ⌜ InPeriod year ⌝ }
+    ensures { λ r. ⌜ Holds ℕ 0 (monthsBefore year) monthsInYear (daysAt (now (book .entry))) r ⌝ }
 {
     let first_year = amount(slots::first_year(book));
     let first_month = amount(slots::first_month(book));
-    lengths(first_year, first_month, through)
+    lengths(first_year, first_month, months_before(year))
 }
 
-fn lengths(first_year: u64, first_month: u64, through: usize) -> [u64; keys::MONTHS]
+fn lengths(first_year: u64, first_month: u64, before: usize) -> [u64; MONTHS_IN_YEAR]
     requires { ⌜ («first_year» ≤ 2089) × («first_month» ≤ 12) ⌝ }
-    requires { ⌜ through ≤ months ⌝ }
-    ensures { λ r. ⌜ Holds ℕ 0 through (daysOf «first_year» «first_month») r ⌝ }
+    requires { ⌜ before + monthsInYear ≤ months ⌝ }
+    ensures { λ r. ⌜ Holds ℕ 0 before monthsInYear (daysOf «first_year» «first_month») r ⌝ }
 {
-    let mut lengths = [0u64; keys::MONTHS];
-    for passed in 0..through {
-        lengths[passed] = calendar::days(first_year, first_month, passed as u64 + 1);
+    let mut lengths = [0u64; MONTHS_IN_YEAR];
+    for passed in 0..MONTHS_IN_YEAR {
+        let month = before + passed + 1;
+        lengths[passed] = calendar::days(first_year, first_month, month as u64);
     }
     lengths
 }
 
 // Their factors.
-pub fn factors(book: &[u8], through: usize) -> [u64; keys::MONTHS]
+pub fn factors(book: &[u8], year: usize) -> [u64; MONTHS_IN_YEAR]
     requires { ⌜ Valid (now book) ⌝ }
-    requires { ⌜ through ≤ months ⌝ }
-    ensures { λ r. ⌜ Holds ℕ 0 through (factorAt (now (book .entry))) r ⌝ }
+    requires { ⌜ InPeriod year ⌝ }
+    ensures { λ r. ⌜ Holds ℕ 0 (monthsBefore year) monthsInYear (factorAt (now (book .entry))) r ⌝ }
 {
-    let mut factors = [0u64; keys::MONTHS];
-    for passed in 0..through {
-        factors[passed] = factor_by(slots::temperature(book, passed + 1));
+    let before = months_before(year);
+    let mut factors = [0u64; MONTHS_IN_YEAR];
+    for passed in 0..MONTHS_IN_YEAR {
+        factors[passed] = factor_by(slots::temperature(book, before + passed + 1));
     }
     factors
 }

@@ -1,41 +1,40 @@
 // Refusal 7: shares of a category that sum above the whole.
 ghost use mathlib.Core.Path.{_≡_};
 ghost use Rattle.book.specs.Valid.{Valid};
-ghost use Rattle.year.specs.Shares.{shareIn, sharesOf, overOf};
-use slots::Line;
+ghost use Rattle.keys.specs.Table.{lines};
+ghost use Rattle.year.specs.Shares.{overOf};
+ghost use Rattle.year.specs.Asks.{Shared};
 
 // Shares count ten-thousandths.
 const WHOLE_SHARE: u64 = 10_000;
+
+// Room for a sum of each category, by its number; 0 is the number where there is no line.
+const CATEGORY_SUMS: usize = keys::CATEGORIES + 1;
 
 // The lowest category whose shares sum above the whole, or the one past all categories.
 pub fn over_shared(book: &[u8]) -> usize
     requires { ⌜ Valid (now book) ⌝ }
     ensures { λ r. ⌜ r ≡ overOf (now (book .entry)) ⌝ }
 {
+    let shares = shares(book);
     for category in 1..=keys::CATEGORIES {
-        if WHOLE_SHARE < shares(book, category as u64) {
+        if WHOLE_SHARE < shares[category] {
             return category;
         }
     }
     keys::CATEGORIES + 1
 }
 
-fn shares(book: &[u8], category: u64) -> u64
+// The sum of each category's shares.
+fn shares(book: &[u8]) -> [u64; CATEGORY_SUMS]
     requires { ⌜ Valid (now book) ⌝ }
-    ensures { λ r. ⌜ r ≡ sharesOf (now (book .entry)) category ⌝ }
+    ensures { λ r. ⌜ Shared (now (book .entry)) lines r ⌝ }
 {
-    let mut shares = 0;
+    let mut shares = [0u64; CATEGORY_SUMS];
     for line in 1..=keys::LINES {
-        shares += share_in(category, slots::line_at(book, line));
+        let numbers = slots::line_at(book, line);
+        let category = numbers.category as usize;
+        shares[category] = shares[category] + numbers.share;
     }
     shares
-}
-
-fn share_in(category: u64, line: Line) -> u64
-    ensures { λ r. ⌜ r ≡ shareIn category line ⌝ }
-{
-    if line.category == category {
-        return line.share;
-    }
-    0
 }

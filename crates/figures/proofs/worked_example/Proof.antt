@@ -5,7 +5,7 @@ use borrow.Author.Needs.{needs}
 use Rattle.book.specs.Valid.{Valid}
 use Rattle.book.proofs.Kept.{empty-valid}
 use Rattle.book.proofs.Size.{zeros-sized}
-use Rattle.text.proofs.Laying.{within}
+use Rattle.page.proofs.Laying.{within}
 use Rattle.figures.proofs.worked_example.Statement.{statement}
 use Rattle.figures.proofs.worked_example.Tie as tie
 

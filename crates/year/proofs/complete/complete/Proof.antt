@@ -39,6 +39,12 @@ returns-2 c =
     let start = c .before .before .before .before .before .before in
     no-line (now (start .args .book)) (start .args .year) (present (c .before .before)) (sym (c .before .any-line .ensures) ∙ not-true _ (c .if2 .taken))
 
+lined-categories-requires : tie.Need-lined-categories-requires
+lined-categories-requires c κs = search needs
+
+slice-aggregate-first-lacking : tie.Need-slice-aggregate-first-lacking
+slice-aggregate-first-lacking c = search needs
+
 first-lacking-requires : tie.Need-first-lacking-requires
 first-lacking-requires c κs = search needs
 
@@ -47,14 +53,14 @@ months-through-requires c κs = search needs
 
 returns-3 : tie.Need-returns-3
 returns-3 c =
-    let start = c .before .before .before .before .before .before .before .before .before in
-    lacks-month (now (start .args .book)) (start .args .year) (present (c .before .before .before .before .before)) (lined (c .before .before .before))
+    let start = c .before .before .before .before .before .before .before .before .before .before .before in
+    lacks-month (now (start .args .book)) (start .args .year) (present (c .before .before .before .before .before .before .before)) (lined (c .before .before .before .before .before))
     (c .before .before .first-lacking .ensures) (omega (arith, c .if3 .taken, c .before .months-through .ensures))
 
 returns-4 : tie.Need-returns-4
 returns-4 c =
-    let start = c .before .before .before .before .before .before .before .before .before in
-    lacks-none (now (start .args .book)) (start .args .year) (present (c .before .before .before .before .before)) (lined (c .before .before .before))
+    let start = c .before .before .before .before .before .before .before .before .before .before .before in
+    lacks-none (now (start .args .book)) (start .args .year) (present (c .before .before .before .before .before .before .before)) (lined (c .before .before .before .before .before))
     (c .before .before .first-lacking .ensures) (omega (arith, c .if3 .left, c .before .months-through .ensures))
 
 pub complete-spec : {M : Type 1} → statement M
@@ -66,6 +72,8 @@ complete-spec =
     returns
     any-line-requires
     returns-2
+    lined-categories-requires
+    slice-aggregate-first-lacking
     first-lacking-requires
     months-through-requires
     returns-3

@@ -1,52 +1,67 @@
--- `complete::is_headless` meets its contract: the search passes each line whose category has its head count.
+-- `complete::is_headless` meets its contract: the search passes each category that has no line, or has its head count.
 -- Assumes nothing.
-use Prim.Native.Nat.{_+_, _-_, _≤_}
-use mathlib.Core.Path.{sym, _∙_, _≡_}
+use Prim.Native.Nat.{ℕ, _+_, _-_, _≤_, _<_}
+use mathlib.Core.Bool.{false, _&&_}
+use mathlib.Core.Path.{sym, subst, _∙_, _≡_}
+use native.Mathlib.Decide.{decLt}
 use native.Mathlib.Omega.{arith}
-use Rattle.laws.proofs.Counting.{begins, none-found, one-found, passed}
-use Rattle.laws.specs.Counting.{first, firstFrom}
-use Rattle.keys.specs.Table.{lines}
-use Rattle.slots.specs.Reads.{categoryOf}
-use Rattle.year.specs.Complete.{headless, uncounted}
+use denote.Ref.{now}
+use lib.ListN.{getD}
+use Rattle.keys.specs.Table.{categories}
+use Rattle.slots.specs.declared.Seen.the-variants.{Value}
+use Rattle.year.specs.Complete.{uncounted}
+use Rattle.year.proofs.Lined.{headless-found, headless-none}
 use Rattle.year.proofs.complete.is_headless.Statement.{statement}
 use Rattle.year.proofs.complete.is_headless.Tie as tie
 
 abbrev Inv-loop : tie.InvT-loop
-Inv-loop book month line₀ line =
-    (1 ≤ line) × (line ≤ lines + 1) ×
-    (first lines (λ l. uncounted book month (categoryOf book l)) ≡ firstFrom line (lines + 1 - line) (λ l. uncounted book month (categoryOf book l)))
+Inv-loop book month lined category₀ category =
+    (1 ≤ category) × (category ≤ categories + 1) ×
+    ((k : ℕ) → 1 ≤ k → k < category → (getD lined k false && uncounted book month (Value k)) ≡ false)
 
 abbrev μ-loop : tie.MeasureT-loop
-μ-loop book month line₀ line = lines + 1 - line
+μ-loop book month lined category₀ category = categories + 1 - category
 
 loop-holds : tie.Need-loop-holds Inv-loop μ-loop
-loop-holds c = (omega arith, omega arith, begins lines _)
+loop-holds c = (omega arith, omega arith, λ k low high. absurd (omega arith))
+
+shared-slice-read-is-uncounted : tie.Need-shared-slice-read-is-uncounted Inv-loop μ-loop
+shared-slice-read-is-uncounted c = omega (arith, c .before .before .before .before .before .pre .1 .1 .long)
 
 is-uncounted-requires : tie.Need-is-uncounted-requires Inv-loop μ-loop
-is-uncounted-requires c κs = let start = c .before .before .before in (start .pre .0, (omega arith, start .pre .1))
+is-uncounted-requires c κs = let start = c .before .before .before .before .before in (start .pre .0, (omega arith, start .pre .1 .0))
 
 returns : tie.Need-returns Inv-loop μ-loop
-unfolding headless
 returns c =
-    let loop = c .before .before .before .loop in
-    one-found lines (loop .line) _ (loop .inv .2) (omega arith) (sym (c .before .is-uncounted .ensures) ∙ c .if1 .taken)
+    let start = c .before .before .before .before .before .before .before in
+    headless-found (now (start .args .book)) (start .args .month) (start .pre .1 .1) (c .before .before .before .before .loop .category) (omega arith)
+    (sym (c .before .is-uncounted .ensures) ∙ c .if1 .taken)
 
-add-line : tie.Need-add-line Inv-loop μ-loop
-add-line c = omega arith
+add-category : tie.Need-add-category Inv-loop μ-loop
+add-category c = omega arith
 
 loop-less : tie.Need-loop-less Inv-loop μ-loop
 loop-less c = omega arith
 
 loop-again : tie.Need-loop-again Inv-loop μ-loop
-loop-again c = let loop = c .before .before .before .loop in (
-  omega arith,
-  omega arith,
-  passed lines (loop .line) _ (loop .inv .2) (omega arith) (sym (c .before .is-uncounted .ensures) ∙ c .if1 .left),
-)
+loop-again c = (omega arith, omega arith, λ k low high. passed k low high (decLt k (c .before .before .before .before .loop .category)))
+  where
+    passed :
+        (k : ℕ) → 1 ≤ k → k < c .before .before .before .before .loop .category + 1 → Dec (k < c .before .before .before .before .loop .category) →
+        (getD (now (c .before .before .before .before .before .before .before .args .lined)) k false && uncounted (now (c .before .before .before .before .before .before .before .args .book)) (c .before .before .before .before .before .before .before .args .month) (Value k)) ≡ false
+    passed k low high (yes before) = c .before .before .before .before .loop .inv .2 k low before
+    passed k low high (no here) =
+        let e : c .before .before .before .before .loop .category ≡ k = omega arith in
+        subst
+        (λ (j : ℕ).
+        (getD (now (c .before .before .before .before .before .before .before .args .lined)) j false && uncounted (now (c .before .before .before .before .before .before .before .args .book)) (c .before .before .before .before .before .before .before .args .month) (Value j)) ≡ false)
+        e (sym (c .before .is-uncounted .ensures) ∙ c .if1 .left)
 
 returns-2 : tie.Need-returns-2 Inv-loop μ-loop
-unfolding headless
-returns-2 c = none-found lines (c .before .loop .line) _ (c .before .loop .inv .2) (omega arith)
+returns-2 c =
+    let start = c .before .before .before .before in
+    headless-none (now (start .args .book)) (start .args .month) (start .pre .1 .1) (start .pre .0)
+    (λ k low high. c .before .loop .inv .2 k low (omega arith))
 
 pub is-headless-spec : {M : Type 1} → statement M
 is-headless-spec =
@@ -55,9 +70,10 @@ is-headless-spec =
     Inv-loop
     μ-loop
     loop-holds
+    shared-slice-read-is-uncounted
     is-uncounted-requires
     returns
-    add-line
+    add-category
     loop-less
     loop-again
     returns-2)

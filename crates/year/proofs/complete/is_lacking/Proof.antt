@@ -13,11 +13,11 @@ use Rattle.year.proofs.complete.is_lacking.Statement.{statement}
 use Rattle.year.proofs.complete.is_lacking.Tie as tie
 
 measured : (c : tie.Else1) →
-    unmeasured (temperatureOf (now (c .before .before .before .before .args .book)) (c .before .before .before .before .args .month)) ≡ false
+    unmeasured (temperatureOf (now (c .before .before .before .before .before .args .book)) (c .before .before .before .before .before .args .month)) ≡ false
 measured c = ap unmeasured (sym (c .before .before .temperature .ensures)) ∙ sym (c .before .is-unmeasured .ensures) ∙ c .if1 .left
 
 counted : (c : tie.Else2) →
-    headless (now (c .before .before .before .before .before .before .args .book)) (c .before .before .before .before .before .before .args .month) ≡ false
+    headless (now (c .before .before .before .before .before .before .before .args .book)) (c .before .before .before .before .before .before .before .args .month) ≡ false
 counted c = sym (c .before .is-headless .ensures) ∙ c .if2 .left
 
 temperature-requires : tie.Need-temperature-requires
@@ -28,7 +28,7 @@ is-unmeasured-requires c κs = search needs
 
 returns : tie.Need-returns
 returns c =
-    let start = c .before .before .before .before in
+    let start = c .before .before .before .before .before in
     lacks-temperature (now (start .args .book)) (start .args .year) (start .args .month)
     (ap unmeasured (sym (c .before .before .temperature .ensures)) ∙ sym (c .before .is-unmeasured .ensures) ∙ c .if1 .taken)
 
@@ -37,7 +37,7 @@ is-headless-requires c κs = search needs
 
 returns-2 : tie.Need-returns-2
 returns-2 c =
-    let start = c .before .before .before .before .before .before in
+    let start = c .before .before .before .before .before .before .before in
     lacks-head (now (start .args .book)) (start .args .year) (start .args .month) (measured (c .before .before)) (sym
     (c .before .is-headless .ensures) ∙ c .if2 .taken)
 
@@ -46,7 +46,7 @@ months-before-requires c κs = search needs
 
 returns-3 : tie.Need-returns-3
 returns-3 c =
-    let start = c .before .before .before .before .before .before .before .before in
+    let start = c .before .before .before .before .before .before .before .before .before in
     lacks-nothing (now (start .args .book)) (start .args .year) (start .args .month) (measured (c .before .before .before .before))
     (counted (c .before .before)) (omega (arith, c .before .months-before .ensures))
 
@@ -58,7 +58,7 @@ is-filled-requires c κs = search needs
 
 returns-4 : tie.Need-returns-4
 returns-4 c =
-    let start = c .before .before .before .before .before .before .before .before .before .before in
+    let start = c .before .before .before .before .before .before .before .before .before .before .before in
     lacks-project (now (start .args .book)) (start .args .year) (start .args .month) (measured (c .before .before .before .before .before .before))
     (counted (c .before .before .before .before)) (omega (arith, c .before .before .if3 .left, c .before .before .before .months-before .ensures))
     (c .is-filled .ensures ∙ ap filled (c .before .project-methane .ensures))

@@ -1,61 +1,55 @@
--- `shares::shares` meets its contract: the sum of the lines before the one that the loop has come to.
+-- `shares::shares` meets its contract: the sums of the lines before the one that the loop has come to.
 -- Assumes nothing.
-use Prim.Native.Nat.{ℕ, _+_, _-_, _≤_}
-use mathlib.Core.Bool.{Bool, cond, false, true}
-use mathlib.Core.Path.{ap, _∙_, _≡_}
+use Prim.Native.Nat.{_+_, _-_, _≤_}
+use mathlib.Core.Path.{_≡_}
 use native.Mathlib.Omega.{arith}
-use borrow.Author.Needs.{needs}
 use denote.Ref.{now}
-use lib.Dec.{eqb}
-use Rattle.laws.proofs.Counting.{sum-more, sum-most, sum-none}
-use Rattle.laws.specs.Counting.{sum}
-use Rattle.keys.specs.Table.{lines}
-use Rattle.slots.specs.Reads.{lineOf}
-use Rattle.slots.specs.declared.Line.{Line}
-use Rattle.year.specs.Shares.{shareIn, sharesOf}
+use Rattle.keys.specs.Table.{lines, categories}
+use Rattle.year.specs.Asks.{LineRanged, Shared}
 use Rattle.year.proofs.Ranges.{line-ranged}
+use Rattle.year.proofs.Sharing.{shared-more, shared-most, shared-none}
 use Rattle.year.proofs.shares.shares.Statement.{statement}
 use Rattle.year.proofs.shares.shares.Tie as tie
 
-share-most : (category : ℕ) (line : Line) → line .share ≤ 10000 → shareIn category line ≤ 10000
-share-most category line small = go (eqb (line .category) category)
-  where
-    go : (b : Bool) → cond b (line .share) 0 ≤ 10000
-    go true = small
-    go false = omega arith
-
 abbrev Inv-loop : tie.InvT-loop
-Inv-loop book category shares₀ line₀ shares line =
-    (1 ≤ line) × (line ≤ lines + 1) × (shares ≡ sum (line - 1) (λ l. shareIn category (lineOf book l)))
+Inv-loop book shares₀ line₀ shares line = (1 ≤ line) × (line ≤ lines + 1) × Shared book (line - 1) shares
 
 abbrev μ-loop : tie.MeasureT-loop
-μ-loop book category shares₀ line₀ shares line = lines + 1 - line
+μ-loop book shares₀ line₀ shares line = lines + 1 - line
+
+ranged : (c : tie.After-line-at Inv-loop μ-loop) → LineRanged (c .line-at .result)
+ranged c =
+    let start = c .before .before .before .before in
+    rw (c .line-at .ensures) (line-ranged (now (start .args .book)) (start .pre) (c .before .before .loop .line) (omega arith))
 
 loop-holds : tie.Need-loop-holds Inv-loop μ-loop
-loop-holds c = (omega arith, omega arith, sum-none _)
+loop-holds c = (omega arith, omega arith, shared-none _)
 
 line-at-requires : tie.Need-line-at-requires Inv-loop μ-loop
 line-at-requires c κs = (c .before .before .before .pre, omega arith)
 
-share-in-requires : tie.Need-share-in-requires Inv-loop μ-loop
-share-in-requires c κs = search needs
+mul-shares : tie.Need-mul-shares Inv-loop μ-loop
+mul-shares c = omega (arith, ranged c .category)
+
+array-read-shares : tie.Need-array-read-shares Inv-loop μ-loop
+array-read-shares c = omega (arith, ranged c .category)
 
 add-shares : tie.Need-add-shares Inv-loop μ-loop
 add-shares c =
     let start = c .before .before .before .before .before in
     let loop = c .before .before .before .loop in
-    let book = now (start .args .book) in
-    let each : ℕ → ℕ = λ line. shareIn (start .args .category) (lineOf book line) in
-    let before : loop .line - 1 ≤ 31 = omega arith in
+    let r = ranged (c .before) in
     omega (
       arith,
-      loop .inv .2,
-      sum-most each 10000 (loop .line - 1) (λ line low high. share-most (start .args .category) (lineOf book line) (line-ranged book
-          (start .pre) line (omega arith) .share)),
-      c .share-in .ensures,
-      ap (shareIn (start .args .category)) (c .before .line-at .ensures),
-      share-most (start .args .category) (lineOf book (loop .line)) (line-ranged book (start .pre) (loop .line) (omega arith) .share),
+      r .share,
+      shared-most (now (start .args .book)) (start .pre) (loop .line - 1) (omega arith) (loop .inv .2) (c .before .line-at .result .category) (r .category),
     )
+
+mul-shares-2 : tie.Need-mul-shares-2 Inv-loop μ-loop
+mul-shares-2 c = omega (arith, ranged (c .before) .category)
+
+array-write-shares : tie.Need-array-write-shares Inv-loop μ-loop
+array-write-shares c = omega (arith, ranged (c .before) .category)
 
 add-line : tie.Need-add-line Inv-loop μ-loop
 add-line c = omega arith
@@ -64,17 +58,17 @@ loop-less : tie.Need-loop-less Inv-loop μ-loop
 loop-less c = omega arith
 
 loop-again : tie.Need-loop-again Inv-loop μ-loop
-loop-again c = let loop = c .before .before .before .loop in (
-  omega arith,
-  omega arith,
-  sum-more _ (loop .line) (omega arith) (loop .inv .2) (c .share-in .ensures ∙ ap (shareIn _) (c .before .line-at .ensures)),
-)
+loop-again c =
+    let loop = c .before .before .before .loop in (
+      omega arith,
+      omega arith,
+      shared-more (now (c .before .before .before .before .before .args .book)) (loop .line) (omega arith) (c .before .line-at .ensures) (ranged (c .before) .category) (loop .inv .2),
+    )
 
 returns : tie.Need-returns Inv-loop μ-loop
-unfolding sharesOf
 returns c =
     let end : c .before .loop .line - 1 ≡ lines = omega arith in
-    rw (← end) (c .before .loop .inv .2)
+    rw end at (c .before .loop .inv .2)
 
 pub shares-spec : {M : Type 1} → statement M
 shares-spec =
@@ -84,8 +78,11 @@ shares-spec =
     μ-loop
     loop-holds
     line-at-requires
-    share-in-requires
+    mul-shares
+    array-read-shares
     add-shares
+    mul-shares-2
+    array-write-shares
     add-line
     loop-less
     loop-again

@@ -1,0 +1,34 @@
+-- `year::whole_year` meets its contract: the shares, and then the figures, since no sum passes 2^63.
+-- Assumes nothing.
+use borrow.Author.Needs.{needs}
+use denote.Ref.{now}
+use Rattle.year.proofs.Answers.{over-is, stated-is}
+use Rattle.year.proofs.whole_year.Statement.{statement}
+use Rattle.year.proofs.whole_year.Tie as tie
+
+over-shared-requires : tie.Need-over-shared-requires
+over-shared-requires c κs = search needs
+
+returns : tie.Need-returns
+returns c =
+    let start = c .before .before .before .before in
+    (over-is (now (start .args .book)) (start .args .year) (c .before .over-shared .ensures) (c .if1 .taken), start .pre .1 .1)
+
+figures-from-requires : tie.Need-figures-from-requires
+figures-from-requires c κs = search needs
+
+same-length : tie.Need-same-length
+same-length c = search needs
+
+returns-2 : tie.Need-returns-2
+returns-2 c =
+    let stated = c .before .before .figures-from .ensures in
+    let start = c .before .before .before .before .before .before .before .before in (
+      stated-is (now (start .args .book)) (start .args .year) (c .before .before .before .before .before .over-shared .ensures) (start .pre .0) (start .pre .1 .0) (c .before .before .before .before .if1 .left)
+          (stated .0),
+      stated .1,
+    )
+
+pub whole-year-spec : {M : Type 1} → statement M
+whole-year-spec =
+    tie.close (tie.spec over-shared-requires returns figures-from-requires same-length returns-2)
