@@ -29,7 +29,10 @@ pub fn lay_years(book: &[u8], page: &mut [u8]) -> usize
     let mut carried = [0u64; year::LINES];
     let mut at = 0;
     for year in 1..=YEARS {
-        match year::year_after(book, year, &mut carried) {
+        let walked = year::year_after(book, year, carried);
+        carried = walked.carried;
+        let answer = walked.answer;
+        match answer {
             Answer::Stated(figures) => {
                 at = lay_year(page, at, year, figures);
             }

@@ -1,6 +1,6 @@
 -- No two outcomes fit the contract of a public function. Assumes nothing.
 use Prim.Native.Nat.{ℕ, _+_}
-use mathlib.Core.Path.{_≡_, subst, ap, sym, _∙_}
+use mathlib.Core.Path.{_≡_, subst, ap, ap₂, sym, _∙_}
 use mathlib.Core.List.{List}
 use native.Mathlib.Omega.{arith}
 use lib.ListN.{getD}
@@ -8,6 +8,7 @@ use lib.Seq.{ext-getD}
 use Rattle.laws.proofs.Determined.{OneAnswer, OneOutcome, one, ones}
 use Rattle.calendar.specs.Days.{monthsInYear}
 use Rattle.year.specs.Answer.{carriedPast}
+use Rattle.year.specs.declared.Answer.{Answer}
 use Rattle.year.specs.Asks.{Holds}
 use Rattle.year.proofs.year.Reads as Year
 use Rattle.year.proofs.year_after.Reads as YearAfter
@@ -28,10 +29,12 @@ use Rattle.year.proofs.shares.over_shared.Reads as OverShared
 pub year-one : OneAnswer Year.Learnt
 year-one κ a x y s t = one
 
--- what is carried afterwards goes by the answer, which is one
-pub year-after-one : OneOutcome YearAfter.Learnt (λ κ s. s .1 .1 .0 .now)
+-- what each line carries then goes by the answer, which is one
+pub year-after-one : OneAnswer YearAfter.Learnt
 year-after-one κ a x y s t p q =
-    let same = one (p .0) (q .0) in (same, p .1 ∙ ap (carriedPast (a .0 .now) (a .1 .0)) same ∙ sym (q .1))
+    let same = one (p .0) (q .0) in
+    ap₂ (λ (answer : Answer) (carried : List ℕ). record { answer = answer; carried = carried }) same
+    (p .1 ∙ ap (carriedPast (a .0 .now) (a .1 .0)) same ∙ sym (q .1))
 
 pub completeness-place-one : OneAnswer CompletenessPlace.Learnt
 completeness-place-one κ a x y s t = one

@@ -52,6 +52,13 @@ pub enum Answer {
     Refused(u8, u64),
 }
 
+// A year's answer in a walk over the years, and what each line then carries: past the year's end where it
+// is stated, and as before where it is refused.
+pub struct HandedOn {
+    pub answer: Answer,
+    pub carried: [u64; LINES],
+}
+
 // A year is refused as no year of the period, for a record that it lacks, before any sum is taken, or
 // for a category's shares; else its figures are stated.
 pub fn year(book: &[u8], year: u64) -> Answer
@@ -74,9 +81,24 @@ pub fn year(book: &[u8], year: u64) -> Answer
 }
 
 // The same of a year of the period, for a walk over the years: from what each line carried past the year
-// before, which is left as what it carries past this one where the year is stated. The year before was
-// complete, so the year's own months alone are looked at.
-pub fn year_after(book: &[u8], year: u64, carried: &mut [u64]) -> Answer
+// before. The year before was complete, so the year's own months alone are looked at.
+pub fn year_after(book: &[u8], year: u64, carried: [u64; LINES]) -> HandedOn
+    requires { ⌜ Valid (now book) ⌝ }
+    requires { ⌜ InPeriod year ⌝ }
+    requires { ⌜ AfterComplete (now book) year ⌝ }
+    requires { ⌜ carried ≡ carriedAfter (now book) (year - 1) ⌝ }
+    ensures { λ r. ⌜ r .answer ≡ answerOf (now (book .entry)) year ⌝ }
+    ensures { λ r. ⌜ r .carried ≡ carriedPast (now (book .entry)) year (r .answer) ⌝ }
+{
+    let mut past = carried;
+    let answer = answer_after(book, year as usize, &mut past);
+    HandedOn {
+        answer,
+        carried: past,
+    }
+}
+
+fn answer_after(book: &[u8], year: usize, carried: &mut [u64]) -> Answer
     requires { ⌜ Valid (now book) ⌝ }
     requires { ⌜ InPeriod year ⌝ }
     requires { ⌜ AfterComplete (now book) year ⌝ }
@@ -84,12 +106,11 @@ pub fn year_after(book: &[u8], year: u64, carried: &mut [u64]) -> Answer
     ensures { λ r. ⌜ r ≡ answerOf (now (book .entry)) year ⌝ }
     ensures { λ r. ⌜ now (carried .exit) ≡ carriedPast (now (book .entry)) year r ⌝ }
 {
-    let counted = year as usize;
-    let found = complete::complete(book, counted, series::months_before(counted));
+    let found = complete::complete(book, year, series::months_before(year));
     let Completeness::Complete = found else {
         return Answer::Refused(LACKING, found.place());
     };
-    whole_year(book, counted, carried)
+    whole_year(book, year, carried)
 }
 
 // What each line carries past the year before: the years are walked one after the other, from empty

@@ -1,11 +1,11 @@
--- `year::year_after` meets its contract: the months before the year lack nothing, since the year before was complete.
+-- `year::answer_after` meets its contract: the months before the year lack nothing, since the year before was complete.
 -- Assumes nothing.
 use borrow.Author.Needs.{needs}
 use denote.Ref.{now}
 use Rattle.year.proofs.Answers.{complete-is, lacking-is}
 use Rattle.year.proofs.Lacking.{before-lack-nothing}
-use Rattle.year.proofs.year_after.Statement.{statement}
-use Rattle.year.proofs.year_after.Tie as tie
+use Rattle.year.proofs.answer_after.Statement.{statement}
+use Rattle.year.proofs.answer_after.Tie as tie
 
 months-before-requires : tie.Need-months-before-requires
 months-before-requires c κs = search needs
@@ -47,8 +47,8 @@ returns-2 c =
       whole .1,
     )
 
-pub year-after-spec : {M : Type 1} → statement M
-year-after-spec =
+pub answer-after-spec : {M : Type 1} → statement M
+answer-after-spec =
     tie.close
     (tie.spec
     months-before-requires
