@@ -3,3 +3,4 @@ pub mod Keys
 pub mod Made
 pub mod Own
 pub mod Read
+pub mod Slotwise

@@ -1,0 +1,11 @@
+pub mod Answers
+pub mod Contracts
+pub mod FirstMonth
+pub mod OnlyRefuses
+pub mod OtherBook
+pub mod Promise
+pub mod Records
+pub mod SameTonnes
+pub mod WorkedBook
+pub mod WorkedReads
+pub mod WorkedYear

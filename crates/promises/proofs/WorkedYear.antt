@@ -1,0 +1,180 @@
+-- The first year of 01's worked example on the definitions: 01 gives it no refusal, and its figures are those that 01 prints ("Figures to check").
+-- Where device 1 destroyed nothing its tonnes are others. Assumes nothing.
+use Prim.Native.Nat.{ℕ, zero, suc, _+_, _≤_}
+use mathlib.Core.Bool.{Bool, true, false, cond}
+use mathlib.Core.List.{List, [], _∷_}
+use mathlib.Core.Path.{_≡_, refl, ap, _∙_}
+use native.Mathlib.Omega.{arith}
+use borrow.Author.Tests.{eqb-true}
+use lib.Dec.{eqb, lit≤}
+use lib.IntN.{pos, negℤ}
+use Rattle.laws.specs.Counting.{sum}
+use Rattle.laws.proofs.Counting.{Each}
+use Rattle.units.specs.Grams.{solids, methane, co2e, b0RuleOf}
+use Rattle.units.specs.declared.co2e.Co2e.{Co2e}
+use Rattle.units.specs.declared.methane.Methane.{Methane}
+use Rattle.units.specs.declared.solids.Solids.{Solids}
+use Rattle.calendar.specs.Days.{monthsInYear, leapOf, februaryOf, lengthsOf, lengthOf, goneOf, daysOf}
+use Rattle.factor.specs.Factor.{factorOf}
+use Rattle.lagoon.specs.Month.{enteredOf, outcomeOf}
+use Rattle.lagoon.specs.Run.{withOf, runFrom, yearOf}
+use Rattle.lagoon.specs.declared.Month.{Month}
+use Rattle.lagoon.specs.declared.Totals.{Totals}
+use Rattle.keys.specs.Table.{lines, ln}
+use Rattle.keys.specs.Slot.{slotOf}
+use Rattle.book.specs.Book.{recordAt}
+use Rattle.slots.specs.Reads.{firstMonthOf, lineOf, drainedOf, baselineCo2Of, projectCo2Of}
+use Rattle.slots.specs.declared.Line.{Line}
+use Rattle.slots.specs.declared.Seen.{Seen}
+use Rattle.slots.specs.declared.Warmth.{Warmth}
+use Rattle.year.specs.Answer.{firstYear}
+use Rattle.year.specs.Credit.{gramsOf, destroyedAt, operatorAt, operatorOver, operatorOf, totalOf, figuresBy, figuresOf}
+use Rattle.year.specs.Lines.{anaerobicOf, otherOf, bySystem, nothing, headsOf, lineIn, sumsOver, all, sumsOf}
+use Rattle.year.specs.Series.{amountOf, monthsBefore, daysAt, factorBy, factorAt, headAt, enteredAt, monthAt}
+use Rattle.year.specs.declared.Figures.{Figures}
+use Rattle.year.specs.declared.credit.Operator.{Operator}
+use Rattle.year.specs.declared.lines.Sums.{Sums}
+use Rattle.year.proofs.SameMonths.{same-year}
+use Rattle.promises.proofs.Promise.{Answered}
+use Rattle.promises.proofs.Records as Records
+use Rattle.promises.proofs.Records.{lineRecord}
+use Rattle.promises.proofs.WorkedBook.{none, made, Stands, made-stands}
+use Rattle.promises.proofs.WorkedReads.{theLine, year-is, month-is, system-by, line-is, head-is, temperature-is, drained-is, project-is, first-is, none-is, complete-is, shares-are}
+
+-- 01's figures
+abbrev pub worked : Figures
+worked =
+    record {
+      entered = solids 175200000;
+      degraded = solids 175200000;
+      removed = solids 0;
+      carried = solids 0;
+      baseline = co2e 600445440;
+      project = co2e 12000000;
+      metered = co2e 504000000;
+      net = pos 498;
+      credited = 498;
+    }
+
+-- a month of the line, what the operator entered for a month, and the year's sums
+abbrev month : Solids → ℕ → Bool → Month
+month entered factor drained = record { entered = entered; factor = factor; drained = drained }
+
+abbrev theMonth : ℕ → Month
+theMonth m = month (enteredOf 100 1000 6000 10000 (daysOf 2011 1 m)) (factorOf (pos 302)) false
+
+abbrev operator : Co2e → Co2e → Co2e → Methane → Operator
+operator project-methane baseline project destroyed =
+    record { methane = project-methane; baseline = baseline; project = project; destroyed = destroyed }
+
+abbrev theOperator : Bool → Operator
+theOperator destroyed = operator (co2e 1000000) (co2e 0) (co2e 500000) (methane (Records.gramsOf destroyed))
+
+abbrev theSums : Sums
+theSums = record { entered = solids 175200000; degraded = solids 175200000; removed = solids 0; carried = solids 0; baseline = co2e 600445440 }
+
+line-sums : anaerobicOf (yearOf theMonth firstYear) (theLine .b0) ≡ theSums
+unfolding yearOf runFrom withOf outcomeOf enteredOf daysOf goneOf lengthOf lengthsOf februaryOf leapOf factorOf b0RuleOf
+line-sums = refl
+
+year-sums : sumsOver (λ l. cond (eqb l 1) theSums nothing) all lines ≡ theSums
+unfolding sumsOver
+year-sums = refl
+
+-- the same lines and the same months have the same sums
+same-sums : (one other : ℕ → Sums) (n : ℕ) → Each n (λ l. one l ≡ other l) → sumsOver one all n ≡ sumsOver other all n
+unfolding sumsOver
+same-sums one other zero same = refl
+same-sums one other (suc n) same = rw (same (suc n) (omega arith) (omega arith), same-sums one other n (λ l low high. same l low (omega arith)))
+
+same-operator : (one other : ℕ → Operator) (n : ℕ) → Each n (λ m. one m ≡ other m) → operatorOver one n ≡ operatorOver other n
+unfolding operatorOver
+same-operator one other zero same = refl
+same-operator one other (suc n) same = rw (same (suc n) (omega arith) (omega arith), same-operator one other n (λ m low high. same m low (omega arith)))
+
+module _ (book : List ℕ) (destroyed : Bool) (s : Stands book destroyed) where
+  days-are : (m : ℕ) → daysAt book m ≡ daysOf 2011 1 m
+  unfolding daysAt
+  days-are m =
+      ap (λ (y : Seen). daysOf (amountOf y) (amountOf (firstMonthOf book)) m) (year-is book destroyed s)
+      ∙ ap (λ (y : Seen). daysOf 2011 (amountOf y) m) (month-is book destroyed s)
+
+  module _ (m : ℕ) (low : 1 ≤ m) (high : m ≤ monthsInYear) where
+    entered-is : enteredAt book 1 m ≡ theMonth m .entered
+    unfolding enteredAt headAt
+    entered-is =
+        ap (λ (x : Line). enteredOf (headAt book (x .category) m) (x .solids) (x .mass) (x .share) (daysAt book m)) (line-is book destroyed s)
+        ∙ ap (λ (h : Seen). enteredOf (amountOf h) 1000 6000 10000 (daysAt book m)) (head-is book destroyed s m low high)
+        ∙ ap (enteredOf 100 1000 6000 10000) (days-are m)
+
+    months-are : monthAt book 1 m ≡ theMonth m
+    unfolding monthAt factorAt
+    months-are =
+        ap (λ (e : Solids). month e (factorAt book m) (drainedOf book 1 m)) entered-is
+        ∙ ap (λ (t : Warmth). month (theMonth m .entered) (factorBy t) (drainedOf book 1 m)) (temperature-is book destroyed s m low high)
+        ∙ ap (month (theMonth m .entered) (factorOf (pos 302))) (drained-is book destroyed s m low high)
+
+    destroyed-is : destroyedAt book m ≡ methane (Records.gramsOf destroyed)
+    unfolding destroyedAt sum
+    destroyed-is =
+        let first = ap amountOf (first-is book destroyed s m low high) in
+        let second = ap amountOf (none-is book destroyed s m low high 2 (s .second-device m low high)) in
+        let third = ap amountOf (none-is book destroyed s m low high 3 (s .third-device m low high)) in
+        let fourth = ap amountOf (none-is book destroyed s m low high 4 (s .fourth-device m low high)) in
+        ap methane (omega (arith, first, second, third, fourth))
+
+    operator-is : operatorAt book m ≡ theOperator destroyed
+    unfolding operatorAt
+    operator-is =
+        let p = project-is book destroyed s m low high in
+        ap (λ (x : Seen). operator (gramsOf x) (gramsOf (baselineCo2Of book m)) (gramsOf (projectCo2Of book m)) (destroyedAt book m)) (p .0)
+        ∙ ap (λ (x : Seen). operator (co2e 1000000) (gramsOf x) (gramsOf (projectCo2Of book m)) (destroyedAt book m)) (p .1)
+        ∙ ap (λ (x : Seen). operator (co2e 1000000) (co2e 0) (gramsOf x) (destroyedAt book m)) (p .2)
+        ∙ ap (operator (co2e 1000000) (co2e 0) (co2e 500000)) destroyed-is
+
+  -- line 1, and a line that is not there
+  first-line : lineIn book firstYear 1 ≡ theSums
+  unfolding lineIn
+  first-line =
+      ap (λ (x : Seen). bySystem x (anaerobicOf (yearOf (monthAt book 1) firstYear) (lineOf book 1 .b0)) (otherOf (headsOf book firstYear (lineOf book 1 .category)) (lineOf book 1)))
+      (system-by book destroyed s 1 true (s .line 1 (lit≤ tt) (lit≤ tt)))
+      ∙ ap (λ (x : Line). anaerobicOf (yearOf (monthAt book 1) firstYear) (x .b0)) (line-is book destroyed s)
+      ∙ ap (λ (t : Totals). anaerobicOf t (theLine .b0)) (same-year (monthAt book 1) theMonth firstYear (lit≤ tt) months-are)
+      ∙ line-sums
+
+  line-in : (l : ℕ) (b : Bool) → eqb l 1 ≡ b → recordAt book (slotOf ln (l ∷ [])) ≡ cond b lineRecord none → lineIn book firstYear l ≡ cond b theSums nothing
+  unfolding lineIn
+  line-in l true e stands = ap (lineIn book firstYear) (eqb-true l 1 e) ∙ first-line
+  line-in l false e stands =
+      ap (λ (x : Seen). bySystem x (anaerobicOf (yearOf (monthAt book l) firstYear) (lineOf book l .b0)) (otherOf (headsOf book firstYear (lineOf book l .category)) (lineOf book l)))
+      (system-by book destroyed s l false stands)
+
+  sums-are : sumsOf book firstYear all ≡ theSums
+  sums-are = same-sums (lineIn book firstYear) (λ l. cond (eqb l 1) theSums nothing) lines (λ l low high. line-in l (eqb l 1) refl (s .line l low high)) ∙ year-sums
+
+  operators-are : operatorOf book firstYear ≡ operatorOver (λ m. theOperator destroyed) monthsInYear
+  operators-are =
+      same-operator (λ m. operatorAt book (monthsBefore firstYear + m)) (λ m. theOperator destroyed) monthsInYear
+      (λ m low high. let e : monthsBefore firstYear + m ≡ m = omega arith in ap (operatorAt book) e ∙ operator-is m low high)
+
+  figures-are : figuresOf book firstYear ≡ figuresBy theSums (operatorOver (λ m. theOperator destroyed) monthsInYear)
+  unfolding figuresOf
+  figures-are = ap (λ (x : Sums). figuresBy x (operatorOf book firstYear)) sums-are ∙ ap (figuresBy theSums) operators-are
+
+pub answered : (destroyed : Bool) → Answered (made destroyed) firstYear
+answered destroyed =
+    let s = made-stands destroyed in
+    record {
+      valid = s .valid;
+      period = omega arith;
+      complete = complete-is (made destroyed) destroyed s;
+      shares = shares-are (made destroyed) destroyed s;
+    }
+
+pub worked-figures : figuresOf (made true) firstYear ≡ worked
+unfolding operatorOver totalOf
+worked-figures = figures-are (made true) true (made-stands true)
+
+pub other-tonnes : figuresOf (made false) firstYear .net ≡ negℤ (pos 6)
+unfolding operatorOver totalOf
+other-tonnes = ap (λ (f : Figures). f .net) (figures-are (made false) false (made-stands false))
