@@ -18,7 +18,7 @@ use Rattle.book.proofs.Free.{free-same}
 use Rattle.book.proofs.Letters.{held-filled}
 use Rattle.slots.specs.Entries.{firstYear, share, head, temperature, projectMethane, destroyed}
 use Rattle.slots.specs.Field.{placeOf, bytesOf, fieldAt, filledAt, seenAt, numberOf, seenOf, filledOf}
-use Rattle.slots.specs.Reads.{firstYearOf, shareOf, headOf, temperatureOf, drainedOf, projectMethaneOf, destroyedOf}
+use Rattle.slots.specs.Reads.{firstYearOf, headOf, temperatureOf, drainedOf, projectMethaneOf, destroyedOf}
 use Rattle.slots.specs.declared.Seen.the-variants.{Nothing, Value}
 use Rattle.slots.specs.declared.Warmth.the-variants.{Unknown, Tenths}
 use Rattle.slots.proofs.Within.{number-slot, inside-record}
@@ -77,7 +77,7 @@ module _ (book r : List ℕ) (size : length book ≡ bookBytes) (t : answerOf bo
   unfolding keyOf keyIn
   posted-year e = as-row yr e firstYear (lit≤ tt)
 
-  pub posted-share : rowOf r ≡ ln → shareOf (bookAfter book r) (getD r 2 0) ≡ Value (numberAt r 10 2)
+  pub posted-share : rowOf r ≡ ln → seenOf (bookAfter book r) ln (getD r 2 0 ∷ []) share ≡ Value (numberAt r 10 2)
   unfolding keyOf keyIn
   posted-share e = as-row ln e share (lit≤ tt)
 

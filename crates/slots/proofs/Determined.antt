@@ -4,11 +4,6 @@ use Rattle.slots.proofs.first_year.Reads as FirstYear
 use Rattle.slots.proofs.first_month.Reads as FirstMonth
 use Rattle.slots.proofs.system.Reads as System
 use Rattle.slots.proofs.category.Reads as Category
-use Rattle.slots.proofs.table_solids.Reads as TableSolids
-use Rattle.slots.proofs.mass.Reads as Mass
-use Rattle.slots.proofs.share.Reads as Share
-use Rattle.slots.proofs.b0.Reads as B0
-use Rattle.slots.proofs.conversion_factor.Reads as ConversionFactor
 use Rattle.slots.proofs.line_at.Reads as LineAt
 use Rattle.slots.proofs.head.Reads as Head
 use Rattle.slots.proofs.temperature.Reads as Temperature
@@ -17,10 +12,6 @@ use Rattle.slots.proofs.project_methane.Reads as ProjectMethane
 use Rattle.slots.proofs.baseline_co2.Reads as BaselineCo2
 use Rattle.slots.proofs.project_co2.Reads as ProjectCo2
 use Rattle.slots.proofs.destroyed.Reads as Destroyed
-use Rattle.slots.proofs.read.Reads as Read
-use Rattle.slots.proofs.filled.Reads as Filled
-use Rattle.slots.proofs.field.Reads as Field
-use Rattle.slots.proofs.tenths.Reads as Tenths
 
 pub first-year-one : OneAnswer FirstYear.Learnt
 first-year-one κ a x y s t = one
@@ -33,21 +24,6 @@ system-one κ a x y s t = one
 
 pub category-one : OneAnswer Category.Learnt
 category-one κ a x y s t = one
-
-pub table-solids-one : OneAnswer TableSolids.Learnt
-table-solids-one κ a x y s t = one
-
-pub mass-one : OneAnswer Mass.Learnt
-mass-one κ a x y s t = one
-
-pub share-one : OneAnswer Share.Learnt
-share-one κ a x y s t = one
-
-pub b0-one : OneAnswer B0.Learnt
-b0-one κ a x y s t = one
-
-pub conversion-factor-one : OneAnswer ConversionFactor.Learnt
-conversion-factor-one κ a x y s t = one
 
 pub line-at-one : OneAnswer LineAt.Learnt
 line-at-one κ a x y s t = one
@@ -72,15 +48,3 @@ project-co2-one κ a x y s t = one
 
 pub destroyed-one : OneAnswer Destroyed.Learnt
 destroyed-one κ a x y s t = one
-
-pub read-one : OneAnswer Read.Learnt
-read-one κ a x y s t = one
-
-pub filled-one : OneAnswer Filled.Learnt
-filled-one κ a x y s t = one
-
-pub field-one : OneAnswer Field.Learnt
-field-one κ a x y s t = one
-
-pub tenths-one : OneAnswer Tenths.Learnt
-tenths-one κ a x y s t = one

@@ -26,21 +26,6 @@ systemOf book line = seenOf book ln (line ∷ []) system
 abbrev pub categoryOf : List ℕ → ℕ → Seen
 categoryOf book line = seenOf book ln (line ∷ []) category
 
-abbrev pub tableSolidsOf : List ℕ → ℕ → Seen
-tableSolidsOf book line = seenOf book ln (line ∷ []) tableSolids
-
-abbrev pub massOf : List ℕ → ℕ → Seen
-massOf book line = seenOf book ln (line ∷ []) mass
-
-abbrev pub shareOf : List ℕ → ℕ → Seen
-shareOf book line = seenOf book ln (line ∷ []) share
-
-abbrev pub b0Of : List ℕ → ℕ → Seen
-b0Of book line = seenOf book ln (line ∷ []) b0
-
-abbrev pub conversionFactorOf : List ℕ → ℕ → Seen
-conversionFactorOf book line = seenOf book ln (line ∷ []) conversionFactor
-
 -- all of a line's numbers at once, 0 where no LN stands
 abbrev pub lineOf : List ℕ → ℕ → Line
 lineOf book line =

@@ -9,7 +9,7 @@ ghost use Rattle.keys.specs.Slot.{slots, slotOf};
 ghost use Rattle.book.specs.Valid.{Valid};
 ghost use Rattle.slots.specs.Entries.{temperature};
 ghost use Rattle.slots.specs.Field.{placeOf, bytesOf, fieldAt, filledAt, seenAt};
-ghost use Rattle.slots.specs.Reads.{firstYearOf, firstMonthOf, systemOf, categoryOf, tableSolidsOf, massOf, shareOf, b0Of, conversionFactorOf, lineOf, headOf, temperatureOf, drainedOf, projectMethaneOf, baselineCo2Of, projectCo2Of, destroyedOf};
+ghost use Rattle.slots.specs.Reads.{firstYearOf, firstMonthOf, systemOf, categoryOf, lineOf, headOf, temperatureOf, drainedOf, projectMethaneOf, baselineCo2Of, projectCo2Of, destroyedOf};
 
 // A field of a slot: nothing where the slot was never filled, and 0 is a value.
 pub enum Seen {
@@ -60,41 +60,6 @@ pub fn category(book: &[u8], line: usize) -> Seen
     ensures { λ r. ⌜ r ≡ categoryOf (now (book .entry)) line ⌝ }
 {
     line_field(book, line, records::LN_CATEGORY)
-}
-
-pub fn table_solids(book: &[u8], line: usize) -> Seen
-    requires { ⌜ (Valid (now book)) × (line ≤ lines) ⌝ }
-    ensures { λ r. ⌜ r ≡ tableSolidsOf (now (book .entry)) line ⌝ }
-{
-    line_field(book, line, records::LN_TABLE_SOLIDS)
-}
-
-pub fn mass(book: &[u8], line: usize) -> Seen
-    requires { ⌜ (Valid (now book)) × (line ≤ lines) ⌝ }
-    ensures { λ r. ⌜ r ≡ massOf (now (book .entry)) line ⌝ }
-{
-    line_field(book, line, records::LN_MASS)
-}
-
-pub fn share(book: &[u8], line: usize) -> Seen
-    requires { ⌜ (Valid (now book)) × (line ≤ lines) ⌝ }
-    ensures { λ r. ⌜ r ≡ shareOf (now (book .entry)) line ⌝ }
-{
-    line_field(book, line, records::LN_SHARE)
-}
-
-pub fn b0(book: &[u8], line: usize) -> Seen
-    requires { ⌜ (Valid (now book)) × (line ≤ lines) ⌝ }
-    ensures { λ r. ⌜ r ≡ b0Of (now (book .entry)) line ⌝ }
-{
-    line_field(book, line, records::LN_B0)
-}
-
-pub fn conversion_factor(book: &[u8], line: usize) -> Seen
-    requires { ⌜ (Valid (now book)) × (line ≤ lines) ⌝ }
-    ensures { λ r. ⌜ r ≡ conversionFactorOf (now (book .entry)) line ⌝ }
-{
-    line_field(book, line, records::LN_CONVERSION_FACTOR)
 }
 
 // All numbers of a line at once, 0 where no LN stands.
@@ -196,7 +161,7 @@ fn project_field(book: &[u8], month: usize, entry: Field) -> Seen
 }
 
 // One field of one slot.
-pub fn read(book: &[u8], slot: usize, entry: Field) -> Seen
+fn read(book: &[u8], slot: usize, entry: Field) -> Seen
     requires { ⌜ (Valid (now book)) × (slot < slots) × (entry .0 + entry .1 ≤ recordBytes) × (entry .1 ≤ 8) ⌝ }
     ensures { λ r. ⌜ r ≡ seenAt (now (book .entry)) slot (entry .0) (entry .1) ⌝ }
 {
@@ -206,7 +171,7 @@ pub fn read(book: &[u8], slot: usize, entry: Field) -> Seen
     Seen::Nothing
 }
 
-pub fn filled(book: &[u8], slot: usize) -> bool
+fn filled(book: &[u8], slot: usize) -> bool
     requires { ⌜ (Valid (now book)) × (slot < slots) ⌝ }
     ensures { λ r. ⌜ r ≡ filledAt (now (book .entry)) slot ⌝ }
 {
@@ -214,7 +179,7 @@ pub fn filled(book: &[u8], slot: usize) -> bool
 }
 
 // The number in a slot, filled or not: 0 where it is empty.
-pub fn field(book: &[u8], slot: usize, entry: Field) -> u64
+fn field(book: &[u8], slot: usize, entry: Field) -> u64
     requires { ⌜ (Valid (now book)) × (slot < slots) × (entry .0 + entry .1 ≤ recordBytes) × (entry .1 ≤ 8) ⌝ }
     ensures { λ r. ⌜ r ≡ fieldAt (now (book .entry)) slot (entry .0) (entry .1) ⌝ }
 {
@@ -222,7 +187,7 @@ pub fn field(book: &[u8], slot: usize, entry: Field) -> u64
 }
 
 // A temperature's slot as a signed number, filled or not: 0 where it is empty.
-pub fn tenths(book: &[u8], slot: usize) -> i16
+fn tenths(book: &[u8], slot: usize) -> i16
     requires { ⌜ (Valid (now book)) × (slot < slots) ⌝ }
     ensures { λ r. ⌜ r ≡ signedOf (fieldAt (now (book .entry)) slot (placeOf tp temperature) (bytesOf tp temperature)) ⌝ }
 {
