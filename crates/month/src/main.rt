@@ -18,7 +18,7 @@ fn main() {
     let mut buffer = [0u8; BUFFER];
     let input = read_input(&mut buffer);
     match input {
-        Got::Bytes(n) => print(format::stated(&buffer[..n])),
+        Got::Bytes(count) => print(format::stated(&buffer[..count])),
         Got::Failed => os::fail(b"standard input"),
     }
 }
@@ -27,23 +27,25 @@ fn main() {
 fn read_input(buffer: &mut [u8]) -> Got
     ensures { λ r. ⌜ Room r (length (now (buffer .exit))) ⌝ }
 {
-    let mut n: usize = 0;
-    while n < buffer.len() {
-        let more = input::read_more(buffer, n);
+    let mut held: usize = 0;
+    while held < buffer.len() {
+        let more = input::read_more(buffer, held);
         let Got::Bytes(count) = more else {
             return Got::Failed;
         };
         if count == 0 {
-            return Got::Bytes(n);
+            return Got::Bytes(held);
         }
-        n += count;
+        held += count;
     }
-    Got::Bytes(n)
+    Got::Bytes(held)
 }
 
 // Prints the one line.
 fn print(answer: MonthAnswer) {
     let mut page = [0u8; line::LINE_BYTES];
-    let n = line::line(answer, &mut page);
-    io::write_all(STDOUT_FILENO, &page[..n]);
+    let end = line::line(answer, &mut page);
+    if !io::write_all(STDOUT_FILENO, &page[..end]) {
+        os::fail(b"standard output");
+    }
 }

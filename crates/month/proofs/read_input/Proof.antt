@@ -10,18 +10,18 @@ use Rattle.month.proofs.read_input.Statement.{statement}
 use Rattle.month.proofs.read_input.Tie as tie
 
 abbrev Inv-loop : tie.InvT-loop
-Inv-loop buffer₀ n₀ buffer n = (n ≤ length buffer) × (length buffer ≡ length buffer₀)
+Inv-loop buffer₀ held₀ buffer held = (held ≤ length buffer) × (length buffer ≡ length buffer₀)
 
 abbrev μ-loop : tie.MeasureT-loop
-μ-loop buffer₀ n₀ buffer n = length buffer - n
+μ-loop buffer₀ held₀ buffer held = length buffer - held
 
 -- what a read gives lies within what was left of the buffer
 within :
     (r : tie.After-read-more Inv-loop μ-loop) (k : ℕ) → r .read-more .result ≡ Bytes k →
-    k ≤ length (r .before .before .before .loop .buffer) - r .before .before .before .loop .n
+    k ≤ length (r .before .before .before .loop .buffer) - r .before .before .before .loop .held
 within r k e =
     let l = r .before .before .before .loop in
-    given (r .read-more .result) k (length (l .buffer) - l .n) e (r .read-more .ensures .0)
+    given (r .read-more .result) k (length (l .buffer) - l .held) e (r .read-more .ensures .0)
 
 loop-holds : tie.Need-loop-holds Inv-loop μ-loop
 loop-holds c = (omega arith, refl)
@@ -47,8 +47,8 @@ same-length-2 c = c .before .before .before .before .before .before .read-more .
 returns-2 : tie.Need-returns-2 Inv-loop μ-loop
 returns-2 c = omega (arith, c .before .before .before .before .before .before .read-more .kept .0, c .before .before .before .before .before .before .before .before .before .loop .inv .0)
 
-add-n : tie.Need-add-n Inv-loop μ-loop
-add-n c = omega (arith, within (c .before .before .before .before .before .before) (c .before .before .more .given .0 .0) (c .before .before .more .given .1), c .before .before .before .before .before .before .before .before .before .loop .inv .0, c .before .before .before .before .before .before .before .before .before .loop .inv .1)
+add-held : tie.Need-add-held Inv-loop μ-loop
+add-held c = omega (arith, within (c .before .before .before .before .before .before) (c .before .before .more .given .0 .0) (c .before .before .more .given .1), c .before .before .before .before .before .before .before .before .before .loop .inv .0, c .before .before .before .before .before .before .before .before .before .loop .inv .1)
 
 loop-less : tie.Need-loop-less Inv-loop μ-loop
 loop-less c = omega (arith, within (c .before .before .before .before .before .before) (c .before .before .more .given .0 .0) (c .before .before .more .given .1), c .before .before .before .before .before .before .read-more .kept .0, c .before .before .before .before .before .before .before .before .before .loop .inv .0)
@@ -76,7 +76,7 @@ read-input-spec =
     returns
     same-length-2
     returns-2
-    add-n
+    add-held
     loop-less
     loop-again
     same-length-3
