@@ -24,7 +24,7 @@ use Rattle.meter.specs.Hour.{isSound, wholeEfficiency}
 use Rattle.meter.specs.Month.{meteredOf, isRefusedAt, monthOf}
 use Rattle.meter.specs.declared.MonthAnswer.the-variants.{Destroyed}
 use Rattle.year.specs.Answer as Year
-use Rattle.year.specs.Credit.{figuresOf}
+use Rattle.year.specs.Figures.{figuresOf}
 use Rattle.year.specs.declared.Answer.the-variants.{Stated}
 use Rattle.year.proofs.Answers.{complete-is, stated-is}
 use Rattle.promises.proofs.Promise.{Answered}

@@ -12,7 +12,7 @@ use Rattle.book.proofs.Kept.{empty-valid}
 use Rattle.meter.specs.Hour.{wholeEfficiency}
 use Rattle.meter.specs.declared.MonthAnswer as MonthAnswer
 use Rattle.meter.specs.declared.MonthAnswer.{MonthAnswer}
-use Rattle.year.specs.Answer.{firstYear}
+use Rattle.months.specs.Series.{firstYear}
 use Rattle.year.specs.declared.Answer as Answer
 use Rattle.year.specs.declared.Answer.{Answer}
 use Rattle.promises.proofs.Promise.{KeepsAnswers, KeepsMeter, KeepsYears, Answered}

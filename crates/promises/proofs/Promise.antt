@@ -19,12 +19,12 @@ use Rattle.book.specs.Valid.{Valid}
 use Rattle.book.specs.declared.Posted.{Posted}
 use Rattle.meter.specs.Month.{monthOf}
 use Rattle.meter.specs.declared.MonthAnswer.{MonthAnswer}
+use Rattle.months.specs.Asks.{InPeriod}
+use Rattle.needs.specs.Complete.{completeOf}
+use Rattle.needs.specs.Shares.{overOf}
+use Rattle.needs.specs.declared.complete.Completeness.the-variants.{Complete}
 use Rattle.year.specs.Answer as Year
-use Rattle.year.specs.Asks.{InPeriod}
-use Rattle.year.specs.Complete.{completeOf}
-use Rattle.year.specs.Shares.{overOf}
 use Rattle.year.specs.declared.Answer.{Answer}
-use Rattle.year.specs.declared.complete.Completeness.the-variants.{Complete}
 
 -- posting: the answer, and the book afterwards
 abbrev pub KeepsAnswers : (List ℕ → List ℕ → Posted) → Type 0

@@ -7,8 +7,8 @@ use native.Mathlib.Omega.{arith}
 use lib.IntN.{ℤ, pos, negℤ}
 use Rattle.units.specs.Tonnes.{netOf}
 use Rattle.book.specs.Valid.{Valid}
-use Rattle.year.specs.Answer.{firstYear}
-use Rattle.year.specs.Credit.{figuresOf}
+use Rattle.months.specs.Series.{firstYear}
+use Rattle.year.specs.Figures.{figuresOf}
 use Rattle.year.specs.declared.Answer.{Answer}
 use Rattle.year.specs.declared.Answer.the-variants.{Stated}
 use Rattle.year.specs.declared.Figures.{Figures}

@@ -24,12 +24,11 @@ use Rattle.slots.specs.declared.Seen.{Seen}
 use Rattle.slots.specs.declared.Seen.the-variants.{Nothing, Value}
 use Rattle.slots.specs.declared.Warmth.the-variants.{Tenths, Unknown}
 use Rattle.postings.proofs.Slotwise.{filled-held, number-held, seen-held}
-use Rattle.year.specs.Answer.{firstYear}
-use Rattle.year.specs.Complete.{anyLine, unmeasured, uncounted, headless, lacks, lackingOf, completeOf}
-use Rattle.year.specs.Series.{filled}
-use Rattle.year.specs.Shares.{wholeShare, shareIn, sharesOf, overOf}
-use Rattle.year.specs.declared.complete.Completeness.the-variants.{Complete}
-use Rattle.year.proofs.Lacking.{lacks-project, lacks-none}
+use Rattle.months.specs.Series.{firstYear, filled}
+use Rattle.needs.specs.Complete.{anyLine, unmeasured, uncounted, headless, lacks, lackingOf, completeOf}
+use Rattle.needs.specs.Shares.{wholeShare, shareIn, sharesOf, overOf}
+use Rattle.needs.specs.declared.complete.Completeness.the-variants.{Complete}
+use Rattle.needs.proofs.Lacking.{lacks-project, lacks-none}
 use Rattle.promises.proofs.Records.{lineRecord, gramsOf, meterRecord}
 use Rattle.promises.proofs.WorkedBook.{none, Stands}
 

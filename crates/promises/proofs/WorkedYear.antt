@@ -27,12 +27,12 @@ use Rattle.slots.specs.Reads.{firstMonthOf, lineOf, drainedOf, baselineCo2Of, p
 use Rattle.slots.specs.declared.Line.{Line}
 use Rattle.slots.specs.declared.Seen.{Seen}
 use Rattle.slots.specs.declared.Warmth.{Warmth}
-use Rattle.year.specs.Answer.{firstYear}
-use Rattle.year.specs.Credit.{gramsOf, destroyedAt, operatorAt, operatorOver, operatorOf, totalOf, figuresBy, figuresOf}
-use Rattle.year.specs.Lines.{anaerobicOf, otherOf, bySystem, nothing, headsOf, lineIn, sumsOver, all, sumsOf}
-use Rattle.year.specs.Series.{amountOf, monthsBefore, daysAt, factorBy, factorAt, headAt, enteredAt, monthAt}
+use Rattle.months.specs.Series.{firstYear, amountOf, monthsBefore, daysAt, factorBy, factorAt}
+use Rattle.credit.specs.Credit.{gramsOf, destroyedAt, operatorAt, operatorOver, operatorOf, totalOf}
+use Rattle.credit.specs.declared.Operator.{Operator}
+use Rattle.year.specs.Figures.{figuresBy, figuresOf}
+use Rattle.year.specs.Lines.{anaerobicOf, otherOf, bySystem, nothing, headsOf, lineIn, sumsOver, all, sumsOf, headAt, enteredAt, monthAt}
 use Rattle.year.specs.declared.Figures.{Figures}
-use Rattle.year.specs.declared.credit.Operator.{Operator}
 use Rattle.year.specs.declared.lines.Sums.{Sums}
 use Rattle.year.proofs.SameMonths.{same-year}
 use Rattle.promises.proofs.Promise.{Answered}

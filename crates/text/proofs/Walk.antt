@@ -4,12 +4,12 @@ use mathlib.Core.List.{List, [], _++_, append-assoc, append-nil}
 use Prim.Native.Nat.{ℕ, suc, _+_, _*_, _-_, _≤_, _<_}
 use native.Mathlib.Omega.{arith}
 use lib.ListN.{length}
+use Rattle.needs.specs.declared.complete.Completeness.the-variants.{Complete}
+use Rattle.needs.specs.Complete.{completeOf, AfterComplete}
 use Rattle.year.specs.declared.Figures.{Figures}
 use Rattle.year.specs.declared.Answer.{Answer}
 use Rattle.year.specs.declared.Answer.the-variants.{Stated, Refused}
-use Rattle.year.specs.declared.complete.Completeness.the-variants.{Complete}
 use Rattle.year.specs.Answer.{answerOf, carriedPast}
-use Rattle.year.specs.Complete.{completeOf, AfterComplete}
 use Rattle.year.specs.Lines.{carriedAfter}
 use Rattle.year.proofs.Answers.{stated-complete}
 use Rattle.page.specs.Page.{Lays}

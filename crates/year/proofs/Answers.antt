@@ -9,16 +9,17 @@ use borrow.Author.Tests.{lt-ltb, le-ltb, le-leb, lt-leb, ltb-false}
 use lib.Dec.{ltb, leb}
 use Rattle.keys.specs.Table.{categories}
 use Rattle.book.specs.Valid.{Valid}
-use Rattle.year.specs.Answer.{firstYear, lastYear, passes, wholeYear, byComplete, answerOf}
-use Rattle.year.specs.Asks.{InPeriod}
-use Rattle.year.specs.Complete.{completeOf, placeOf}
-use Rattle.year.specs.Credit.{figuresOf}
-use Rattle.year.specs.Shares.{overOf}
+use Rattle.months.specs.Series.{firstYear, lastYear}
+use Rattle.months.specs.Asks.{InPeriod}
+use Rattle.needs.specs.Complete.{completeOf, placeOf}
+use Rattle.needs.specs.Shares.{overOf}
+use Rattle.needs.specs.declared.complete.Completeness.{Completeness}
+use Rattle.needs.specs.declared.complete.Completeness.the-variants.{Complete, Lacking}
+use Rattle.year.specs.Answer.{passes, wholeYear, byComplete, answerOf}
+use Rattle.year.specs.Figures.{figuresOf}
 use Rattle.year.specs.declared.Answer.{Answer}
 use Rattle.year.specs.declared.Answer.the-variants.{Stated, Refused}
 use Rattle.year.specs.declared.Figures.{Figures}
-use Rattle.year.specs.declared.complete.Completeness.{Completeness}
-use Rattle.year.specs.declared.complete.Completeness.the-variants.{Complete, Lacking}
 use Rattle.year.proofs.Never.{never}
 
 module _ (book : List ℕ) (year : ℕ) where

@@ -1,10 +1,10 @@
 -- How large a year's figures can be, from the ranges of what they are made of: each product is at most that of the ranges' ends.
 -- Assumes nothing.
-use Prim.Native.Nat.{ℕ, zero, suc, _+_, _*_, _-_, _^_, _≤_, _<_}
+use Prim.Native.Nat.{ℕ, zero, suc, _+_, _*_, _-_, _≤_, _<_}
 use mathlib.Core.Bool.{Bool, true, false, cond}
 use mathlib.Core.List.{List}
 use mathlib.Core.Path.{sym, ap, subst, _≡_, _∙_}
-use native.Mathlib.Nat.{mul-le-mul, suc-mul, not-suc-le-zero}
+use native.Mathlib.Nat.{mul-le-mul, suc-mul}
 use native.Mathlib.Omega.{arith}
 use lib.Dec.{eqb}
 use lib.ListN.{length, getD}
@@ -18,20 +18,19 @@ use Rattle.lagoon.specs.Month.{million, emptyOf}
 use Rattle.lagoon.specs.Run.{runFrom, runOf, after, yearOf, monthsOf}
 use Rattle.lagoon.specs.declared.Standing.{Standing}
 use Rattle.lagoon.specs.declared.Totals.{Totals}
-use Rattle.keys.specs.Table.{lines, categories, months, devices}
+use Rattle.keys.specs.Table.{lines, categories, months}
 use Rattle.book.specs.Valid.{Valid}
-use Rattle.slots.specs.Reads.{systemOf, lineOf, drainedOf, destroyedOf}
+use Rattle.slots.specs.Reads.{systemOf, lineOf, drainedOf}
 use Rattle.slots.specs.declared.Line.{Line}
 use Rattle.slots.specs.declared.Seen.{Seen}
 use Rattle.slots.specs.declared.Seen.the-variants.{Nothing, Value}
-use Rattle.year.specs.Asks.{InPeriod, Holds, LineRanged, headsMost, SumsFit, OperatorFits}
-use Rattle.year.specs.Credit.{destroyedAt, operatorAt, together, operatorOver}
-use Rattle.year.specs.Lines.{anaerobic, anaerobicOf, headsOf, dailyOf, daysInYear, convertedOf, otherOf, bySystem, lineIn, sumsOver, all}
-use Rattle.year.specs.Series.{amountOf, monthsBefore, factorAt, headAt, enteredAt, monthAt}
-use Rattle.year.specs.declared.credit.Operator.{Operator}
+use Rattle.months.specs.Asks.{InPeriod, Holds}
+use Rattle.months.specs.Series.{monthsBefore, factorAt}
+use Rattle.year.specs.Asks.{LineRanged, headsMost, SumsFit}
+use Rattle.year.specs.Lines.{anaerobic, anaerobicOf, headsOf, dailyOf, daysInYear, convertedOf, otherOf, bySystem, lineIn, sumsOver, all, headAt, enteredAt, monthAt}
 use Rattle.year.specs.declared.lines.Sums.{Sums}
 use Rattle.year.proofs.SameMonths.{same-run, standing-most}
-use Rattle.year.proofs.Ranges.{factor-most, line-ranged, head-most, entry-most, methane-most, baseline-most, project-most, destroyed-most}
+use Rattle.year.proofs.Ranges.{factor-most, line-ranged, head-most, entry-most}
 
 -- the most that any figure of one line in a year can be
 abbrev pub lineMost : ℕ
@@ -221,64 +220,3 @@ module _ (book : List ℕ) (v : Valid book) (year : ℕ) (period : InPeriod year
         carried = omega (arith, s .carried);
         baseline = omega (arith, s .baseline);
       }
-
--- what the operator entered
-abbrev pub kilogramsMost : ℕ
-kilogramsMost = 4294967295000
-
-abbrev pub destroyedMost : ℕ
-destroyedMost = 4000000000000
-
-pub record OperatorMost (n : ℕ) (operator : Operator) : Type 0 where
-  pub methane : operator .methane .0 ≤ n * kilogramsMost
-  pub baseline : operator .baseline .0 ≤ n * kilogramsMost
-  pub project : operator .project .0 ≤ n * kilogramsMost
-  pub destroyed : operator .destroyed .0 ≤ n * destroyedMost
-
-pub operator-fits : (n : ℕ) (operator : Operator) → n ≤ monthsInYear → OperatorMost n operator → OperatorFits operator
-operator-fits n operator h o =
-    record {
-      methane = omega (arith, o .methane);
-      baseline = omega (arith, o .baseline);
-      project = omega (arith, o .project);
-      metered = omega (arith, o .destroyed);
-    }
-
-module _ (book : List ℕ) (v : Valid book) where
-  pub month-most : (m : ℕ) → m ≤ months → OperatorMost 1 (operatorAt book m)
-  unfolding operatorAt destroyedAt
-  month-most m h =
-      record {
-        methane = omega (arith, methane-most book v m h);
-        baseline = omega (arith, baseline-most book v m h);
-        project = omega (arith, project-most book v m h);
-        destroyed =
-            omega (
-              arith,
-              sum-most (λ device. amountOf (destroyedOf book m device)) (10 ^ 12) devices
-                  (λ device low high. destroyed-most book v m device h high),
-            );
-      }
-
-  pub operator-most : (year : ℕ) → InPeriod year → (n : ℕ) → n ≤ monthsInYear → OperatorMost n (operatorOver (λ m. operatorAt book (monthsBefore year + m)) n)
-  unfolding operatorOver
-  operator-most year period zero h = record { methane = omega arith; baseline = omega arith; project = omega arith; destroyed = omega arith }
-  operator-most year period (suc n) h =
-      let before = operator-most year period n (omega arith) in
-      let more = month-most (monthsBefore year + suc n) (omega (arith, period .high)) in
-      record {
-        methane = omega (arith, before .methane, more .methane);
-        baseline = omega (arith, before .baseline, more .baseline);
-        project = omega (arith, before .project, more .project);
-        destroyed = omega (arith, before .destroyed, more .destroyed);
-      }
-
-pub one-month-more :
-    (each : ℕ → Operator) (month : ℕ) {operator one next : Operator} → 1 ≤ month → operator ≡ operatorOver each (month - 1) → one ≡ each month →
-    next ≡ together operator one → next ≡ operatorOver each (month + 1 - 1)
-unfolding operatorOver
-one-month-more each zero low is read more = absurd (not-suc-le-zero low)
-one-month-more each (suc k) low is read more =
-    let earlier : suc k - 1 ≡ k = omega arith in
-    let later : suc k + 1 - 1 ≡ suc k = omega arith in
-    more ∙ rw (later, is, read, earlier)

@@ -13,8 +13,7 @@ use Rattle.slots.specs.Reads.{systemOf, lineOf}
 use Rattle.slots.specs.declared.Line.{Line}
 use Rattle.slots.specs.declared.Seen.{Seen}
 use Rattle.slots.specs.declared.Seen.the-variants.{Nothing, Value}
-use Rattle.year.specs.Lines.{anaerobic, anaerobicOf, headsOf, otherOf, nothing, bySystem, lineIn, plus, sumsOver, all}
-use Rattle.year.specs.Series.{monthAt}
+use Rattle.year.specs.Lines.{anaerobic, anaerobicOf, headsOf, otherOf, nothing, bySystem, lineIn, plus, sumsOver, all, monthAt}
 use Rattle.year.specs.declared.lines.Sums.{Sums}
 
 module _ (book : List ℕ) (year line : ℕ) {seen : Seen} (read : seen ≡ systemOf book line) where

@@ -20,8 +20,8 @@ use Rattle.keys.specs.Table.{lines}
 use Rattle.slots.specs.Reads.{systemOf, lineOf}
 use Rattle.slots.specs.declared.Seen.{Seen}
 use Rattle.slots.specs.declared.Seen.the-variants.{Nothing, Value}
-use Rattle.year.specs.Lines.{anaerobic, anaerobicOf, headsOf, otherOf, bySystem, lineIn, ifAnaerobic, carriedBy, listed, carriedAfter}
-use Rattle.year.specs.Series.{monthsBefore, monthsThrough, monthAt}
+use Rattle.months.specs.Series.{monthsBefore, monthsThrough}
+use Rattle.year.specs.Lines.{anaerobic, anaerobicOf, headsOf, otherOf, bySystem, lineIn, ifAnaerobic, carriedBy, listed, carriedAfter, monthAt}
 use Rattle.year.specs.declared.lines.Sums.{Sums}
 
 -- the numbers of the lines, as a list

@@ -29,8 +29,8 @@ use Rattle.slots.specs.declared.Line.{Line}
 use Rattle.slots.specs.declared.Seen.{Seen}
 use Rattle.slots.specs.declared.Seen.the-variants.{Nothing, Value}
 use Rattle.slots.specs.declared.Warmth.the-variants.{Unknown, Tenths}
-use Rattle.year.specs.Lines.{anaerobicOf, headsOf, otherOf, bySystem, lineIn}
-use Rattle.year.specs.Series.{amountOf, monthsBefore, monthsThrough, daysAt, factorBy, factorAt, headAt, enteredAt, monthAt}
+use Rattle.months.specs.Series.{amountOf, monthsBefore, monthsThrough, daysAt, factorBy, factorAt}
+use Rattle.year.specs.Lines.{anaerobicOf, headsOf, otherOf, bySystem, lineIn, headAt, enteredAt, monthAt}
 use Rattle.year.proofs.SameMonths.{same-year}
 
 -- two books have the same record under a key of a row, or none

@@ -1,15 +1,9 @@
 pub mod Determined
 pub mod Ranges
-pub mod Arrays
 pub mod SameMonths
 pub mod Bounds
 pub mod BySystem
 pub mod Carrying
-pub mod Passing
-pub mod Lacking
-pub mod Lined
-pub mod Sharing
-pub mod Signs
 pub mod Never
 pub mod Answers
 pub mod Depends

@@ -17,15 +17,17 @@ use Rattle.units.specs.declared.co2e.Co2e.{Co2e}
 use Rattle.calendar.specs.Days.{monthsInYear}
 use Rattle.keys.specs.Table.{lines, categories}
 use Rattle.book.specs.Valid.{Valid}
+use Rattle.months.specs.Asks.{InPeriod}
+use Rattle.credit.specs.Credit.{operatorOf, modelledOf, meteredOf, totalOf}
+use Rattle.credit.specs.declared.Operator.{Operator}
+use Rattle.credit.proofs.Bounds.{operator-most}
+use Rattle.credit.proofs.Signs.{minus-size, total-size, from-zero}
 use Rattle.year.specs.Answer.{gramsBy, anyAbove, sumLimit, passes}
-use Rattle.year.specs.Asks.{InPeriod}
-use Rattle.year.specs.Credit.{operatorOf, modelledOf, meteredOf, totalOf, figuresBy, figuresOf}
+use Rattle.year.specs.Figures.{figuresBy, figuresOf}
 use Rattle.year.specs.Lines.{headsOf, all, sumsOf}
 use Rattle.year.specs.declared.Figures.{Figures}
-use Rattle.year.specs.declared.credit.Operator.{Operator}
 use Rattle.year.specs.declared.lines.Sums.{Sums}
-use Rattle.year.proofs.Bounds.{sums-most, operator-most, heads-most}
-use Rattle.year.proofs.Signs.{minus-size, total-size, from-zero}
+use Rattle.year.proofs.Bounds.{sums-most, heads-most}
 
 -- a list of numbers that are at most the most
 data Under (most : ℕ) : List ℕ → Type 0 where

@@ -9,7 +9,8 @@ use Rattle.lagoon.proofs.Demand3.{demand-3}
 use Rattle.lagoon.proofs.Parts.{Demand3, AddsUp}
 use Rattle.lagoon.specs.Run.{runOf}
 use Rattle.slots.specs.Reads.{temperatureOf, drainedOf}
-use Rattle.year.specs.Series.{factorBy, factorAt, enteredAt, monthAt}
+use Rattle.months.specs.Series.{factorBy, factorAt}
+use Rattle.year.specs.Lines.{enteredAt, monthAt}
 use Rattle.year.proofs.Ranges.{factor-most}
 
 -- a line of a book

@@ -6,23 +6,18 @@ use lib.Dec.{ltb, leb}
 use lib.IntN.{natAbs}
 use Rattle.laws.specs.Counting.{some}
 use Rattle.keys.specs.Table.{categories}
-use Rattle.year.specs.Complete.{completeOf}
-use Rattle.year.specs.Credit.{operatorOf, modelledOf, meteredOf, totalOf, figuresOf}
+use Rattle.months.specs.Series.{firstYear, lastYear}
+use Rattle.needs.specs.Complete.{completeOf}
+use Rattle.needs.specs.Shares.{overOf}
+use Rattle.needs.specs.declared.complete.Completeness.{Completeness}
+use Rattle.needs.specs.declared.complete.Completeness.the-variants.{Complete, Lacking}
+use Rattle.credit.specs.Credit.{operatorOf, modelledOf, meteredOf, totalOf}
+use Rattle.credit.specs.declared.Operator.{Operator}
+use Rattle.year.specs.Figures.{figuresOf}
 use Rattle.year.specs.Lines.{headsOf, all, sumsOf, carriedAfter}
-use Rattle.year.specs.Shares.{overOf}
 use Rattle.year.specs.declared.Answer.{Answer}
 use Rattle.year.specs.declared.Answer.the-variants.{Stated, Refused}
-use Rattle.year.specs.declared.complete.Completeness.{Completeness}
-use Rattle.year.specs.declared.complete.Completeness.the-variants.{Complete, Lacking}
-use Rattle.year.specs.declared.credit.Operator.{Operator}
 use Rattle.year.specs.declared.lines.Sums.{Sums}
-
--- the years of the crediting period
-abbrev pub firstYear : ℕ
-firstYear = 1
-
-abbrev pub lastYear : ℕ
-lastYear = 10
 
 -- the sums of a year in grams, as whole numbers without an end; the modelled figure and the total by how far they are from 0
 abbrev pub gramsBy : Sums → Operator → List ℕ

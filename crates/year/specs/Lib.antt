@@ -1,7 +1,4 @@
-pub mod Series
-pub mod Complete
-pub mod Shares
 pub mod Lines
-pub mod Credit
+pub mod Figures
 pub mod Answer
 pub mod Asks

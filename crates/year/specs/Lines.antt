@@ -1,4 +1,4 @@
--- The lines of a year: solids of the anaerobic ones, and the baseline of all (01, "The year"; Equations 5.3 and 5.4).
+-- A month of a line (01, "The lagoon month"), and the lines of a year: solids of the anaerobic ones, and the baseline of all (01, "The year"; Equations 5.3 and 5.4).
 use Prim.Native.Nat.{ℕ, zero, suc, _+_, _*_, _/_}
 use mathlib.Core.Bool.{Bool, true, cond}
 use mathlib.Core.List.{List, [], _∷_, _++_}
@@ -8,15 +8,31 @@ use Rattle.units.specs.Grams.{solids, co2e, shareOf, potential, b0RuleOf}
 use Rattle.units.specs.declared.co2e.Co2e.{Co2e}
 use Rattle.units.specs.declared.solids.Solids.{Solids}
 use Rattle.calendar.specs.Days.{monthsInYear}
+use Rattle.lagoon.specs.Month.{enteredOf}
 use Rattle.lagoon.specs.Run.{runOf, yearOf}
+use Rattle.lagoon.specs.declared.Month.{Month}
 use Rattle.lagoon.specs.declared.Totals.{Totals}
 use Rattle.keys.specs.Table.{lines}
-use Rattle.slots.specs.Reads.{systemOf, lineOf}
+use Rattle.slots.specs.Reads.{systemOf, lineOf, headOf, drainedOf}
 use Rattle.slots.specs.declared.Line.{Line}
 use Rattle.slots.specs.declared.Seen.{Seen}
 use Rattle.slots.specs.declared.Seen.the-variants.{Nothing, Value}
-use Rattle.year.specs.Series.{monthsBefore, monthsThrough, headAt, monthAt}
+use Rattle.months.specs.Series.{amountOf, monthsBefore, monthsThrough, daysAt, factorAt}
 use Rattle.year.specs.declared.lines.Sums.{Sums}
+
+-- the head of a category in month m: the month's own count (house reading)
+unfoldable pub headAt : List ℕ → ℕ → ℕ → ℕ
+headAt book category m = amountOf (headOf book category m)
+
+-- what a line enters in month m, by the month's head of the line's category
+unfoldable pub enteredAt : List ℕ → ℕ → ℕ → Solids
+enteredAt book line m =
+    let numbers = lineOf book line in
+    enteredOf (headAt book (numbers .category) m) (numbers .solids) (numbers .mass) (numbers .share) (daysAt book m)
+
+-- month m of a line
+unfoldable pub monthAt : List ℕ → ℕ → ℕ → Month
+monthAt book line m = record { entered = enteredAt book line m; factor = factorAt book m; drained = drainedOf book line m }
 
 -- LN's system 0
 abbrev pub anaerobic : ℕ

@@ -1,19 +1,15 @@
 // A year of a book: what it lacks, its lines and its credit.
-mod complete;
-mod credit;
 mod lines;
-mod series;
-mod shares;
 
 ghost use mathlib.Core.Path.{_≡_};
 ghost use Prim.Native.Nat.{_-_};
 ghost use Rattle.book.specs.Valid.{Valid};
-ghost use Rattle.year.specs.Complete.{AfterComplete};
-ghost use Rattle.year.specs.Credit.{figuresOf};
+ghost use Rattle.months.specs.Asks.{InPeriod};
+ghost use Rattle.needs.specs.Complete.{AfterComplete};
+ghost use Rattle.year.specs.Figures.{figuresOf};
 ghost use Rattle.year.specs.Lines.{carriedAfter};
 ghost use Rattle.year.specs.Answer.{answerOf, wholeYear, carriedPast};
-ghost use Rattle.year.specs.Asks.{InPeriod};
-use complete::Completeness;
+use needs::complete::Completeness;
 use units::Co2e;
 use units::Solids;
 
@@ -72,7 +68,7 @@ pub fn year(book: &[u8], year: u64) -> Answer
         return Answer::Refused(NO_SUCH_YEAR, 0);
     }
     let counted = year as usize;
-    let found = complete::complete(book, counted, 0);
+    let found = needs::complete::complete(book, counted, 0);
     let Completeness::Complete = found else {
         return Answer::Refused(LACKING, found.place());
     };
@@ -106,7 +102,7 @@ fn answer_after(book: &[u8], year: usize, carried: &mut [u64]) -> Answer
     ensures { λ r. ⌜ r ≡ answerOf (now (book .entry)) year ⌝ }
     ensures { λ r. ⌜ now (carried .exit) ≡ carriedPast (now (book .entry)) year r ⌝ }
 {
-    let found = complete::complete(book, year, series::months_before(year));
+    let found = needs::complete::complete(book, year, months::months_before(year));
     let Completeness::Complete = found else {
         return Answer::Refused(LACKING, found.place());
     };
@@ -135,7 +131,7 @@ fn whole_year(book: &[u8], year: usize, carried: &mut [u64]) -> Answer
     ensures { λ r. ⌜ r ≡ wholeYear (now (book .entry)) year ⌝ }
     ensures { λ r. ⌜ now (carried .exit) ≡ carriedPast (now (book .entry)) year r ⌝ }
 {
-    let over = shares::over_shared(book);
+    let over = needs::shares::over_shared(book);
     if over <= keys::CATEGORIES {
         return Answer::Refused(OVER_SHARED, over as u64);
     }

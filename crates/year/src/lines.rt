@@ -10,13 +10,13 @@ ghost use Rattle.lagoon.specs.Asks.{gramsMost};
 ghost use Rattle.keys.specs.Table.{lines, categories, months};
 ghost use Rattle.book.specs.Valid.{Valid};
 ghost use Rattle.slots.specs.Reads.{lineOf, drainedOf};
-ghost use Rattle.year.specs.Series.{monthsBefore, headAt, daysAt, factorAt, enteredAt, monthAt};
-ghost use Rattle.year.specs.Lines.{nothing, baselineAlone, anaerobicOf, headsOf, convertedOf, otherOf, lineIn, plus, all, sumsOf, carriedBy, carriedAfter};
-ghost use Rattle.year.specs.Asks.{InPeriod, Holds, LineRanged, headsMost, SumsFit};
-use crate::series;
-use crate::series::MONTHS_IN_YEAR;
+ghost use Rattle.months.specs.Series.{monthsBefore, daysAt, factorAt};
+ghost use Rattle.months.specs.Asks.{InPeriod, Holds};
+ghost use Rattle.year.specs.Lines.{headAt, enteredAt, monthAt, nothing, baselineAlone, anaerobicOf, headsOf, convertedOf, otherOf, lineIn, plus, all, sumsOf, carriedBy, carriedAfter};
+ghost use Rattle.year.specs.Asks.{LineRanged, headsMost, SumsFit};
 use lagoon::Standing;
 use lagoon::Totals;
+use months::MONTHS_IN_YEAR;
 use slots::Line;
 use slots::Seen;
 use units::Co2e;
@@ -52,8 +52,8 @@ pub fn sums_from(book: &[u8], year: usize, carried: &mut [u64]) -> Sums
     ensures { λ r. ⌜ r ≡ sumsOf (now (book .entry)) year all ⌝ }
     ensures { λ r. ⌜ now (carried .exit) ≡ carriedAfter (now (book .entry)) year ⌝ }
 {
-    let days = series::days(book, year);
-    let factors = series::factors(book, year);
+    let days = months::days(book, year);
+    let factors = months::factors(book, year);
     let mut sums = Sums::nothing();
     for line in 1..=keys::LINES {
         let own = line_in(book, year, line, carried[line - 1], &days, &factors);
@@ -134,7 +134,7 @@ fn entries(
     requires { ⌜ Holds ℕ 0 (monthsBefore year) monthsInYear (daysAt (now book)) (now days) ⌝ }
     ensures { λ r. ⌜ Holds ℕ 0 (monthsBefore year) monthsInYear (λ m. enteredAt (now (book .entry)) line m .0) r ⌝ }
 {
-    let before = series::months_before(year);
+    let before = months::months_before(year);
     let mut entries = [0u64; MONTHS_IN_YEAR];
     for passed in 0..MONTHS_IN_YEAR {
         let month = before + passed + 1;
@@ -158,7 +158,7 @@ fn head(book: &[u8], category: usize, month: usize) -> u64
     requires { ⌜ (category ≤ categories) × (month ≤ months) ⌝ }
     ensures { λ r. ⌜ r ≡ headAt (now (book .entry)) category month ⌝ }
 {
-    series::amount(slots::head(book, category, month))
+    months::amount(slots::head(book, category, month))
 }
 
 // When a line was drained, month by month of the year.
@@ -168,7 +168,7 @@ fn drains(book: &[u8], year: usize, line: usize) -> [bool; MONTHS_IN_YEAR]
     requires { ⌜ line ≤ lines ⌝ }
     ensures { λ r. ⌜ Holds Bool false (monthsBefore year) monthsInYear (drainedOf (now (book .entry)) line) r ⌝ }
 {
-    let before = series::months_before(year);
+    let before = months::months_before(year);
     let mut drains = [false; MONTHS_IN_YEAR];
     for passed in 0..MONTHS_IN_YEAR {
         drains[passed] = slots::drained(book, line, before + passed + 1);
@@ -183,7 +183,7 @@ fn heads(book: &[u8], year: usize, category: usize) -> u64
     requires { ⌜ category ≤ categories ⌝ }
     ensures { λ r. ⌜ r ≡ headsOf (now (book .entry)) year category ⌝ }
 {
-    let before = series::months_before(year);
+    let before = months::months_before(year);
     let mut heads = 0;
     for month in 1..=MONTHS_IN_YEAR {
         heads += head(book, category, before + month);

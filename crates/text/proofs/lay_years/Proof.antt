@@ -4,7 +4,7 @@ use mathlib.Core.Path.{_≡_, _∙_}
 use Prim.Native.Nat.{suc, _-_, _^_, _<_}
 use native.Mathlib.Omega.{arith}
 use borrow.Author.Needs.{needs}
-use Rattle.year.specs.Complete.{AfterComplete}
+use Rattle.needs.specs.Complete.{AfterComplete}
 use Rattle.year.specs.Lines.{carriedAfter}
 use Rattle.year.proofs.Carrying.{none-carried}
 use Rattle.text.specs.Lines.{years}

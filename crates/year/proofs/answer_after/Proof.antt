@@ -2,8 +2,8 @@
 -- Assumes nothing.
 use borrow.Author.Needs.{needs}
 use denote.Ref.{now}
+use Rattle.needs.proofs.Lacking.{before-lack-nothing}
 use Rattle.year.proofs.Answers.{complete-is, lacking-is}
-use Rattle.year.proofs.Lacking.{before-lack-nothing}
 use Rattle.year.proofs.answer_after.Statement.{statement}
 use Rattle.year.proofs.answer_after.Tie as tie
 

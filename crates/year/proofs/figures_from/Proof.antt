@@ -8,8 +8,9 @@ use mir.Syntax.{w64}
 use mir.Val.{ofZ, toZ}
 use Rattle.calendar.specs.Days.{monthsInYear}
 use Rattle.keys.specs.Table.{lines}
-use Rattle.year.specs.Asks.{OperatorFits}
-use Rattle.year.proofs.Bounds.{operator-fits, operator-most, sums-fit}
+use Rattle.credit.specs.Asks.{OperatorFits}
+use Rattle.credit.proofs.Bounds.{operator-fits, operator-most}
+use Rattle.year.proofs.Bounds.{sums-fit}
 use Rattle.year.proofs.Never.{figures-are}
 use Rattle.year.proofs.figures_from.Statement.{statement}
 use Rattle.year.proofs.figures_from.Tie as tie

@@ -3,9 +3,9 @@
 use native.Mathlib.Omega.{arith}
 use borrow.Author.Needs.{needs}
 use denote.Ref.{now}
-use Rattle.year.specs.Asks.{InPeriod}
+use Rattle.months.specs.Asks.{InPeriod}
+use Rattle.needs.proofs.Lacking.{none-passed}
 use Rattle.year.proofs.Answers.{complete-is, lacking-is, too-high, too-low}
-use Rattle.year.proofs.Lacking.{none-passed}
 use Rattle.year.proofs.year.Statement.{statement}
 use Rattle.year.proofs.year.Tie as tie
 

@@ -7,8 +7,8 @@ use native.Mathlib.Omega.{arith}
 use Rattle.calendar.specs.Days.{monthsInYear}
 use Rattle.keys.specs.Table.{months}
 use Rattle.slots.specs.Reads.{drainedOf}
-use Rattle.year.specs.Asks.{Holds}
-use Rattle.year.proofs.Arrays.{array-begins, array-more, array-full}
+use Rattle.months.specs.Asks.{Holds}
+use Rattle.months.proofs.Arrays.{array-begins, array-more, array-full}
 use Rattle.year.proofs.lines.drains.Statement.{statement}
 use Rattle.year.proofs.lines.drains.Tie as tie
 

@@ -9,9 +9,10 @@ use lib.ListN.{getD}
 use Rattle.units.specs.declared.solids.Solids.{Solids}
 use Rattle.calendar.specs.Days.{monthsInYear}
 use Rattle.keys.specs.Table.{months}
-use Rattle.year.specs.Asks.{Holds}
-use Rattle.year.specs.Series.{daysAt, enteredAt}
-use Rattle.year.proofs.Arrays.{array-begins, array-more, array-full, array-at}
+use Rattle.months.specs.Asks.{Holds}
+use Rattle.months.specs.Series.{daysAt}
+use Rattle.months.proofs.Arrays.{array-begins, array-more, array-full, array-at}
+use Rattle.year.specs.Lines.{enteredAt}
 use Rattle.year.proofs.Ranges.{days-most, line-ranged}
 use Rattle.year.proofs.lines.entries.Statement.{statement}
 use Rattle.year.proofs.lines.entries.Tie as tie

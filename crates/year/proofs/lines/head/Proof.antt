@@ -2,7 +2,8 @@
 -- Assumes nothing.
 use mathlib.Core.Path.{ap, _∙_}
 use borrow.Author.Needs.{needs}
-use Rattle.year.specs.Series.{amountOf, headAt}
+use Rattle.months.specs.Series.{amountOf}
+use Rattle.year.specs.Lines.{headAt}
 use Rattle.year.proofs.lines.head.Statement.{statement}
 use Rattle.year.proofs.lines.head.Tie as tie
 

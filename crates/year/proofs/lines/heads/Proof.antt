@@ -7,8 +7,8 @@ use denote.Ref.{now}
 use Rattle.laws.proofs.Counting.{sum-more, sum-most, sum-none}
 use Rattle.laws.specs.Counting.{sum}
 use Rattle.calendar.specs.Days.{monthsInYear}
-use Rattle.year.specs.Lines.{headsOf}
-use Rattle.year.specs.Series.{headAt, monthsBefore}
+use Rattle.months.specs.Series.{monthsBefore}
+use Rattle.year.specs.Lines.{headsOf, headAt}
 use Rattle.year.proofs.Ranges.{head-most}
 use Rattle.year.proofs.lines.heads.Statement.{statement}
 use Rattle.year.proofs.lines.heads.Tie as tie

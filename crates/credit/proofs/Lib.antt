@@ -1,0 +1,4 @@
+pub mod Determined
+pub mod Ranges
+pub mod Bounds
+pub mod Signs

@@ -1,0 +1,14 @@
+-- What the functions ask of their callers, so that no product or sum passes 64 bits. They say nothing of what the figures are.
+use Prim.Native.Nat.{ℕ, _<_, _^_}
+use Rattle.credit.specs.Credit.{meteredOf}
+use Rattle.credit.specs.declared.Operator.{Operator}
+
+-- what a year's sums and the operator's figures stay below
+abbrev pub sumsMost : ℕ
+sumsMost = 2 ^ 60
+
+pub record OperatorFits (operator : Operator) : Type 0 where
+  pub methane : operator .methane .0 < sumsMost
+  pub baseline : operator .baseline .0 < sumsMost
+  pub project : operator .project .0 < sumsMost
+  pub metered : meteredOf operator .0 < sumsMost

@@ -1,0 +1,151 @@
+// The year's credit: what the operator entered, the lesser of modelled and metered, and the total.
+ghost use mathlib.Core.Path.{_≡_};
+ghost use Prim.Native.Nat.{_≤_, _<_, _^_};
+ghost use lib.IntN.{pos};
+ghost use Rattle.keys.specs.Table.{months};
+ghost use Rattle.book.specs.Valid.{Valid};
+ghost use Rattle.months.specs.Series.{amountOf};
+ghost use Rattle.months.specs.Asks.{InPeriod};
+ghost use Rattle.credit.specs.Credit.{gramsOf, destroyedAt, operatorAt, noMonth, together, operatorOf, modelledOf, meteredOf, lesserOf, totalOf};
+ghost use Rattle.credit.specs.Asks.{sumsMost, OperatorFits};
+use months::MONTHS_IN_YEAR;
+use slots::Seen;
+use units::Co2e;
+use units::Methane;
+
+// PE counts kilograms.
+const KILOGRAM: u64 = 1_000;
+
+// What the operator entered: project methane, the baseline's and the project's carbon dioxide, and what
+// the devices destroyed.
+pub struct Operator {
+    pub methane: Co2e,
+    pub baseline: Co2e,
+    pub project: Co2e,
+    pub destroyed: Methane,
+}
+
+// What the operator entered for the year, its twelve months together.
+pub fn operator_of(book: &[u8], year: usize) -> Operator
+    requires { ⌜ Valid (now book) ⌝ }
+    requires { ⌜ InPeriod year ⌝ }
+    ensures { λ r. ⌜ r ≡ operatorOf (now (book .entry)) year ⌝ }
+{
+    let before = months::months_before(year);
+    let mut operator = Operator::none();
+    for month in 1..=MONTHS_IN_YEAR {
+        operator = operator.plus(operator_in(book, before + month));
+    }
+    operator
+}
+
+// The same for one month.
+fn operator_in(book: &[u8], month: usize) -> Operator
+    requires { ⌜ Valid (now book) ⌝ }
+    requires { ⌜ month ≤ months ⌝ }
+    ensures { λ r. ⌜ r ≡ operatorAt (now (book .entry)) month ⌝ }
+{
+    Operator {
+        methane: grams(slots::project_methane(book, month)),
+        baseline: grams(slots::baseline_co2(book, month)),
+        project: grams(slots::project_co2(book, month)),
+        destroyed: destroyed_in(book, month),
+    }
+}
+
+fn grams(kilograms: Seen) -> Co2e
+    requires { ⌜ amountOf kilograms < 2 ^ 32 ⌝ }
+    ensures { λ r. ⌜ r ≡ gramsOf kilograms ⌝ }
+{
+    Co2e::of_grams(KILOGRAM * months::amount(kilograms))
+}
+
+// All devices; one without MT counts 0.
+fn destroyed_in(book: &[u8], month: usize) -> Methane
+    requires { ⌜ Valid (now book) ⌝ }
+    requires { ⌜ month ≤ months ⌝ }
+    ensures { λ r. ⌜ r ≡ destroyedAt (now (book .entry)) month ⌝ }
+{
+    let mut destroyed = Methane::of_grams(0);
+    for device in 1..=keys::DEVICES {
+        destroyed = destroyed.plus(Methane::of_grams(months::amount(slots::destroyed(
+            book,
+            month,
+            device,
+        ))));
+    }
+    destroyed
+}
+
+// The methane reduction, with the baseline's carbon dioxide and without the project's.
+pub fn total(baseline: Co2e, operator: Operator) -> i64
+    requires { ⌜ baseline .0 < sumsMost ⌝ }
+    requires { ⌜ OperatorFits operator ⌝ }
+    ensures { λ r. ⌜ r ≡ totalOf baseline operator ⌝ }
+{
+    let reduction = lesser(modelled(baseline, operator), signed(operator.metered()));
+    reduction + signed(operator.baseline) - signed(operator.project)
+}
+
+fn modelled(baseline: Co2e, operator: Operator) -> i64
+    requires { ⌜ baseline .0 < sumsMost ⌝ }
+    requires { ⌜ OperatorFits operator ⌝ }
+    ensures { λ r. ⌜ r ≡ modelledOf baseline operator ⌝ }
+{
+    signed(baseline) - signed(operator.methane)
+}
+
+fn lesser(modelled: i64, metered: i64) -> i64
+    ensures { λ r. ⌜ r ≡ lesserOf modelled metered ⌝ }
+{
+    if modelled <= metered {
+        return modelled;
+    }
+    metered
+}
+
+// The modelled figure and the total may be below 0.
+fn signed(mass: Co2e) -> i64
+    requires { ⌜ mass .0 < sumsMost ⌝ }
+    ensures { λ r. ⌜ r ≡ pos (mass .0) ⌝ }
+{
+    mass.grams() as i64
+}
+
+impl Operator {
+    fn none() -> Self
+        ensures { λ r. ⌜ r ≡ noMonth ⌝ }
+    {
+        Operator {
+            methane: Co2e::of_grams(0),
+            baseline: Co2e::of_grams(0),
+            project: Co2e::of_grams(0),
+            destroyed: Methane::of_grams(0),
+        }
+    }
+
+    fn plus(self, other: Self) -> Self
+        requires { ⌜ OperatorFits self × OperatorFits other ⌝ }
+        ensures { λ r. ⌜ r ≡ together self other ⌝ }
+    {
+        let methane = self.methane;
+        let baseline = self.baseline;
+        let project = self.project;
+        let destroyed = self.destroyed;
+        Operator {
+            methane: methane.plus(other.methane),
+            baseline: baseline.plus(other.baseline),
+            project: project.plus(other.project),
+            destroyed: destroyed.plus(other.destroyed),
+        }
+    }
+
+    // The destroyed methane, by the potential.
+    pub fn metered(self) -> Co2e
+        requires { ⌜ OperatorFits self ⌝ }
+        ensures { λ r. ⌜ r ≡ meteredOf self ⌝ }
+    {
+        let destroyed = self.destroyed;
+        destroyed.warming(units::POTENTIAL)
+    }
+}

@@ -1,0 +1,6 @@
+pub mod Determined
+pub mod Ranges
+pub mod Passing
+pub mod Lacking
+pub mod Lined
+pub mod Sharing

@@ -1,0 +1,60 @@
+-- Refusal 8: the year lacks a record that it needs (01, "Refusal numbers").
+use Prim.Native.Nat.{ℕ, _-_, _<_}
+use mathlib.Core.Bool.{Bool, true, false, cond, not, _&&_, _||_}
+use mathlib.Core.List.{List}
+use mathlib.Core.Path.{_≡_}
+use lib.Dec.{ltb, leb}
+use Rattle.laws.specs.Counting.{first, some}
+use Rattle.keys.specs.Table.{lines}
+use Rattle.slots.specs.Reads.{firstYearOf, categoryOf, headOf, temperatureOf, projectMethaneOf}
+use Rattle.slots.specs.declared.Seen.{Seen}
+use Rattle.slots.specs.declared.Seen.the-variants.{Nothing, Value}
+use Rattle.slots.specs.declared.Warmth.{Warmth}
+use Rattle.slots.specs.declared.Warmth.the-variants.{Unknown, Tenths}
+use Rattle.months.specs.Series.{filled, monthsBefore, monthsThrough}
+use Rattle.needs.specs.declared.complete.Completeness.{Completeness}
+use Rattle.needs.specs.declared.complete.Completeness.the-variants.{Complete, Lacking}
+
+-- there is a line
+unfoldable pub anyLine : List ℕ → Bool
+anyLine book = some lines (λ line. filled (categoryOf book line))
+
+-- month m lacks TP
+abbrev pub unmeasured : Warmth → Bool
+unmeasured Unknown = true
+unmeasured (Tenths tenths) = false
+
+-- month m lacks HD for the category of a line; where there is no line there is no category
+abbrev pub uncounted : List ℕ → ℕ → Seen → Bool
+uncounted book m Nothing = false
+uncounted book m (Value category) = not (filled (headOf book category m))
+
+unfoldable pub headless : List ℕ → ℕ → Bool
+headless book m = some lines (λ line. uncounted book m (categoryOf book line))
+
+-- month m is a month of the year itself and lacks PE
+abbrev pub unentered : List ℕ → ℕ → ℕ → Bool
+unentered book year m = ltb (monthsBefore year) m && not (filled (projectMethaneOf book m))
+
+-- month m lacks a record that the year needs
+unfoldable pub lacks : List ℕ → ℕ → ℕ → Bool
+lacks book year m = unmeasured (temperatureOf book m) || (headless book m || unentered book year m)
+
+-- the lowest such month, or one past the year
+unfoldable pub lackingOf : List ℕ → ℕ → ℕ
+lackingOf book year = first (monthsThrough year) (lacks book year)
+
+-- no YR or no LN is looked at first, and its place is 0
+unfoldable pub completeOf : List ℕ → ℕ → Completeness
+completeOf book year =
+    cond (not (filled (firstYearOf book)) || not (anyLine book)) (Lacking 0)
+    (cond (leb (lackingOf book year) (monthsThrough year)) (Lacking (lackingOf book year)) Complete)
+
+-- the year before was complete, where there is one
+abbrev pub AfterComplete : List ℕ → ℕ → Type 0
+AfterComplete book year = 1 < year → completeOf book (year - 1) ≡ Complete
+
+-- the place of refusal 8
+abbrev pub placeOf : Completeness → ℕ
+placeOf (Lacking place) = place
+placeOf Complete = 0

@@ -1,0 +1,40 @@
+// Refusal 7: shares of a category that sum above the whole.
+ghost use mathlib.Core.Path.{_≡_};
+ghost use Rattle.book.specs.Valid.{Valid};
+ghost use Rattle.keys.specs.Table.{lines};
+ghost use Rattle.needs.specs.Shares.{overOf};
+ghost use Rattle.needs.specs.Asks.{Shared};
+
+// Shares count ten-thousandths.
+const WHOLE_SHARE: u64 = 10_000;
+
+// Room for a sum of each category, by its number; 0 is the number where there is no line.
+const CATEGORY_SUMS: usize = keys::CATEGORIES + 1;
+
+// The lowest category whose shares sum above the whole, or the one past all categories.
+pub fn over_shared(book: &[u8]) -> usize
+    requires { ⌜ Valid (now book) ⌝ }
+    ensures { λ r. ⌜ r ≡ overOf (now (book .entry)) ⌝ }
+{
+    let shares = shares(book);
+    for category in 1..=keys::CATEGORIES {
+        if WHOLE_SHARE < shares[category] {
+            return category;
+        }
+    }
+    keys::CATEGORIES + 1
+}
+
+// The sum of each category's shares.
+fn shares(book: &[u8]) -> [u64; CATEGORY_SUMS]
+    requires { ⌜ Valid (now book) ⌝ }
+    ensures { λ r. ⌜ Shared (now (book .entry)) lines r ⌝ }
+{
+    let mut shares = [0u64; CATEGORY_SUMS];
+    for line in 1..=keys::LINES {
+        let numbers = slots::line_at(book, line);
+        let category = numbers.category as usize;
+        shares[category] = shares[category] + numbers.share;
+    }
+    shares
+}

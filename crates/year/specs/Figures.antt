@@ -1,0 +1,26 @@
+-- The figures of a year: the sums of its lines, what the operator entered, and the total's tonnes (01, "The year").
+use Prim.Native.Nat.{ℕ}
+use mathlib.Core.List.{List}
+use Rattle.units.specs.Tonnes.{netOf, creditedOf}
+use Rattle.credit.specs.Credit.{operatorOf, meteredOf, totalOf}
+use Rattle.credit.specs.declared.Operator.{Operator}
+use Rattle.year.specs.Lines.{all, sumsOf}
+use Rattle.year.specs.declared.Figures.{Figures}
+use Rattle.year.specs.declared.lines.Sums.{Sums}
+
+abbrev pub figuresBy : Sums → Operator → Figures
+figuresBy sums operator =
+    record {
+      entered = sums .entered;
+      degraded = sums .degraded;
+      removed = sums .removed;
+      carried = sums .carried;
+      baseline = sums .baseline;
+      project = operator .methane;
+      metered = meteredOf operator;
+      net = netOf (totalOf (sums .baseline) operator);
+      credited = creditedOf (netOf (totalOf (sums .baseline) operator));
+    }
+
+unfoldable pub figuresOf : List ℕ → ℕ → Figures
+figuresOf book year = figuresBy (sumsOf book year all) (operatorOf book year)
