@@ -1,5 +1,4 @@
--- What the functions ask of their callers, and what an array of months hands them, to be worked out once.
--- They say nothing of what the figures are.
+-- What the functions ask of their callers: a year of the period. And what the arrays hold that some answer: so many of a year's months of a series.
 use Prim.Native.Nat.{ℕ, _+_, _-_, _≤_}
 use mathlib.Core.List.{List}
 use mathlib.Core.Path.{_≡_}
