@@ -2,8 +2,9 @@
 use Prim.Native.Nat.{_<_}
 use lib.Dec.{lit<}
 use lib.IntN.{pos}
-use Rattle.factor.specs.Factor.{factors, entryOf, factorOf}
+use Rattle.factor.specs.Rule.{denominator, added, subtracted}
+use Rattle.factor.specs.Factor.{summedOf, ruledOf, factorOf}
 
 pub drops : factorOf (pos 50) < factorOf (pos 49)
-unfolding factorOf entryOf factors
+unfolding factorOf ruledOf summedOf denominator added subtracted
 drops = lit< tt

@@ -1,4 +1,4 @@
--- The factor from the table is the factor by the rule, at every temperature, and is at most a million, so that no month degrades more than there is.
+-- The factor of the definition is the factor by the rule, at every temperature, and is at most a million, so that no month degrades more than there is.
 -- Assumes nothing.
 use Prim.Native.Nat.{ℕ, _≤_}
 use mathlib.Core.Path.{_≡_, refl}
@@ -7,9 +7,9 @@ use lib.Dec.{lit≤}
 use lib.IntN.{ℤ, pos, natAbs}
 use lib.Signed.{ltZ}
 use Rattle.factor.specs.Rule.{million, coldEnd, hotEnd, Factor}
-use Rattle.factor.specs.Factor.{entryOf, factorOf}
+use Rattle.factor.specs.Factor.{ruledOf, factorOf}
 use Rattle.factor.proofs.Ends.{inside, Asks, given}
-use Rattle.factor.proofs.Entries.{Right, entry-right}
+use Rattle.factor.proofs.Entries.{Right, ruled-right}
 use Rattle.factor.proofs.One.{one}
 
 module _ (c entry : ℕ) where
@@ -23,8 +23,8 @@ module _ (c entry : ℕ) where
 both : (c : ℤ) → Factor c (factorOf c) × (factorOf c ≤ million)
 unfolding Factor factorOf
 both c =
-    asked (natAbs c) (entryOf (natAbs c)) (ltZ c (pos coldEnd)) (ltZ c (pos hotEnd))
-    (λ low high. let i = inside c low high in entry-right (natAbs c) (i .low) (i .high))
+    asked (natAbs c) (ruledOf (natAbs c)) (ltZ c (pos coldEnd)) (ltZ c (pos hotEnd))
+    (λ low high. let i = inside c low high in ruled-right (natAbs c) (i .low) (i .high))
 
 pub is-factor : (c : ℤ) → Factor c (factorOf c)
 is-factor c = both c .0

@@ -46,24 +46,17 @@ yNumerator c = 1517500000 * (3016 - 10 * c)
 abbrev pub yDenominator : ℕ → ℕ
 yDenominator c = 60237892 * (27300 + 10 * c)
 
--- a partial sum for exp(-p/q), ended on a subtracted term, is at least n millionths: an even number of terms ends on a subtracted one
-pub record Reaches (p q n : ℕ) : Type 0 where
+-- a partial sum of at least four terms keeps a bound: ended on a subtracted term, where their number is even, or on an added one, where it is not
+pub record Ended (onSubtracted : Bool) (Keeps : ℕ → Type 0) : Type 0 where
   pub terms : ℕ
   pub four : 4 ≤ terms
-  pub ended : even terms ≡ true
-  pub bound : AtLeast p q n terms
-
--- a partial sum for exp(-p/q), ended on an added term, is below n millionths: an odd number of terms ends on an added one
-pub record StaysBelow (p q n : ℕ) : Type 0 where
-  pub terms : ℕ
-  pub four : 4 ≤ terms
-  pub ended : even terms ≡ false
-  pub bound : Below p q n terms
+  pub ended : even terms ≡ onSubtracted
+  pub bound : Keeps terms
 
 -- n is a million times exp(-y), rounded down
 pub record Rounded (c n : ℕ) : Type 0 where
-  pub reaches : Reaches (yNumerator c) (yDenominator c) n
-  pub below : StaysBelow (yNumerator c) (yDenominator c) (n + 1)
+  pub reaches : Ended true (AtLeast (yNumerator c) (yDenominator c) n)
+  pub below : Ended false (Below (yNumerator c) (yDenominator c) (n + 1))
 
 -- the first temperature that the rule is for, 5.0 degrees
 abbrev pub coldEnd : ℕ

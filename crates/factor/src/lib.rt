@@ -2,7 +2,7 @@
 ghost use mathlib.Core.Path.{_≡_};
 ghost use Prim.Native.Nat.{_≤_, _<_};
 ghost use Rattle.factor.specs.Rule.{coldEnd, hotEnd};
-ghost use Rattle.factor.specs.Factor.{entryOf, factorOf};
+ghost use Rattle.factor.specs.Factor.{ruledOf, factorOf};
 
 // The first temperature of the table, in tenths of a degree, and the factor below it.
 const COLD_END: i16 = 50;
@@ -33,7 +33,7 @@ const FIRST_ENTRY: usize = COLD_END as usize;
 // Alone in naming the table, which is built in the frame of each function that names it.
 fn entry(tenths: usize) -> u64
     requires { ⌜ (coldEnd ≤ tenths) × (tenths < hotEnd) ⌝ }
-    ensures { λ r. ⌜ r ≡ entryOf tenths ⌝ }
+    ensures { λ r. ⌜ r ≡ ruledOf tenths ⌝ }
 {
     wide(FACTORS[tenths - FIRST_ENTRY])
 }

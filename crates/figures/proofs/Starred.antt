@@ -11,7 +11,8 @@ use Rattle.units.specs.declared.solids.Solids.{Solids}
 use Rattle.units.specs.Grams.{solids, co2e, potential, b0RuleOf}
 use Rattle.units.specs.Tonnes.{netOf}
 use Rattle.calendar.specs.Days.{leapOf, februaryOf, lengthsOf, lengthOf, goneOf, daysOf}
-use Rattle.factor.specs.Factor.{factors, entryOf, factorOf}
+use Rattle.factor.specs.Rule.{denominator, added, subtracted}
+use Rattle.factor.specs.Factor.{summedOf, ruledOf, factorOf}
 use Rattle.lagoon.specs.declared.Standing.{Standing}
 use Rattle.lagoon.specs.declared.Outcome.{Outcome}
 use Rattle.lagoon.specs.Month.{enteredOf, emptyOf, outcomeOf}
@@ -68,7 +69,7 @@ pub record Starred : Type 0 where
   pub content-60·1 : hundredthsOf (nearest 601 10) ≡ Whole 6009
 
 pub starred : Starred
-unfolding enteredOf outcomeOf daysOf goneOf lengthOf lengthsOf februaryOf leapOf factorOf entryOf factors b0RuleOf meteredOf destroyedOf gramsOf sumOf hourOf gramsIn recordedAt flowOf contentOf readingOf filled scaledOf isUpTo timesDown round
+unfolding enteredOf outcomeOf daysOf goneOf lengthOf lengthsOf februaryOf leapOf factorOf ruledOf summedOf denominator added subtracted b0RuleOf meteredOf destroyedOf gramsOf sumOf hourOf gramsIn recordedAt flowOf contentOf readingOf filled scaledOf isUpTo timesDown round
 starred =
     record {
       enters-31-days = refl;

@@ -1,6 +1,8 @@
--- `factor::entry` meets its contract: the array of the source is the table's list. Assumes nothing.
+-- `factor::entry` meets its contract: the array of the source is the table's list, whose entries are what the definition's terms make. Assumes nothing.
+use mathlib.Core.Path.{_∙_}
 use borrow.Author.Needs.{needs}
-use Rattle.factor.specs.Factor.{factors, entryOf}
+use Rattle.factor.proofs.Table.{factors, entryOf}
+use Rattle.factor.proofs.Entries.{entry-right}
 use Rattle.factor.proofs.entry.Statement.{statement}
 use Rattle.factor.proofs.entry.Tie as tie
 
@@ -18,7 +20,7 @@ wide-requires c κs = search needs
 
 returns : tie.Need-returns
 unfolding entryOf factors
-returns c = c .wide .ensures
+returns c = c .wide .ensures ∙ entry-right (c .before .args .tenths) (c .before .pre .0) (c .before .pre .1) .made
 
 pub entry-spec : {M : Type 1} → statement M
 entry-spec = tie.close (tie.spec sub-wide mul-wide array-read-wide wide-requires returns)

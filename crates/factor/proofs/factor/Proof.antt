@@ -9,7 +9,7 @@ use mir.Syntax.{w16}
 use mir.Val.{SFits, toZ, ofZ}
 use mir.Facts.{toZ-ofZ}
 use Rattle.factor.specs.Rule.{coldEnd, hotEnd}
-use Rattle.factor.specs.Factor.{entryOf, factorOf}
+use Rattle.factor.specs.Factor.{ruledOf, factorOf}
 use Rattle.factor.proofs.Ends.{Inside, inside}
 use Rattle.factor.proofs.factor.Statement.{statement}
 use Rattle.factor.proofs.factor.Tie as tie
@@ -39,7 +39,7 @@ unfolding factorOf
 returns-2 c =
     let f = c .before .before .before .fits .tenths in
     rw (same-test coldEnd f (c .before .before .if1 .left), same-test hotEnd f (c .before .if2 .taken))
-    (c .entry .ensures ∙ ap (λ z. entryOf (natAbs z)) (toZ-ofZ f))
+    (c .entry .ensures ∙ ap (λ z. ruledOf (natAbs z)) (toZ-ofZ f))
 
 returns-3 : tie.Need-returns-3
 unfolding factorOf
