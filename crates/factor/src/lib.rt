@@ -9,10 +9,11 @@ const COLD_END: i16 = 50;
 
 const COLD_FACTOR: u64 = 104_000;
 
-// The first temperature past the table, and the factor from it on.
+// The first temperature past the table.
 const HOT_END: i16 = 302;
 
-const MILLION: u64 = 1_000_000;
+// Factors count millionths, and from that temperature on all of them.
+pub const MILLION: u64 = 1_000_000;
 
 // The factor at a temperature in tenths of a degree.
 pub fn factor(tenths: i16) -> u64

@@ -9,7 +9,8 @@ use Rattle.lagoon.specs.declared.Month.{Month}
 use Rattle.lagoon.specs.declared.Outcome.{Outcome}
 use Rattle.lagoon.specs.declared.Standing.{Standing}
 use Rattle.lagoon.specs.declared.Totals.{Totals}
-use Rattle.lagoon.specs.Month.{million, outcomeOf, availableOf, leftOf}
+use Rattle.factor.specs.Rule.{million}
+use Rattle.lagoon.specs.Month.{outcomeOf, availableOf, leftOf}
 use Rattle.lagoon.specs.Run.{withOf, runFrom}
 use Rattle.lagoon.proofs.Parts.{Through}
 use Rattle.lagoon.proofs.Left.{degraded-le}

@@ -10,7 +10,8 @@ use native.Mathlib.Nat.{le-dest}
 use native.Mathlib.Omega.{arith}
 use Rattle.lagoon.specs.declared.Month.{Month}
 use Rattle.lagoon.specs.declared.Totals.{Totals}
-use Rattle.lagoon.specs.Month.{million, emptyOf, outcomeOf}
+use Rattle.factor.specs.Rule.{million}
+use Rattle.lagoon.specs.Month.{emptyOf, outcomeOf}
 use Rattle.lagoon.specs.Run.{withOf, runFrom, runOf}
 use Rattle.lagoon.proofs.Parts.{Through, AddsUp, Demand3}
 use Rattle.lagoon.proofs.Left.{left-split}

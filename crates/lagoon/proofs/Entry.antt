@@ -3,7 +3,8 @@
 use Prim.Native.Nat.{ℕ, _*_, _^_, _≤_, _<_}
 use native.Mathlib.Nat.{mul-le-mul, le-of-lt}
 use native.Mathlib.Omega.{arith}
-use Rattle.lagoon.specs.Month.{million, enteredOf}
+use Rattle.factor.specs.Rule.{million}
+use Rattle.lagoon.specs.Month.{enteredOf}
 use Rattle.lagoon.specs.Asks.{enteredMost, gramsMost}
 
 module _ {head tableSolids mass share days : ℕ} (ends : (head ≤ 100000) × (tableSolids ≤ 2000) × (mass ≤ 20000) × (share ≤ 10000) × (days ≤ 31)) where

@@ -5,7 +5,7 @@ use mathlib.Core.Path.{_≡_, ap, sym, _∙_}
 use native.Mathlib.Nat.{mul-le-mul-left, add-mul, le-dest}
 use native.Mathlib.Omega.{arith}
 use Rattle.units.specs.Grams.{shareOf}
-use Rattle.lagoon.specs.Month.{million}
+use Rattle.factor.specs.Rule.{million}
 
 pub degraded-le : (available factor : ℕ) → factor ≤ million → shareOf available factor million ≤ available
 degraded-le available factor small = omega (arith, mul-le-mul-left available small)

@@ -5,7 +5,8 @@ use mathlib.Core.Bool.{Bool, true, false}
 use native.Mathlib.Omega.{arith}
 use Rattle.lagoon.specs.declared.Month.{Month}
 use Rattle.lagoon.specs.declared.Totals.{Totals}
-use Rattle.lagoon.specs.Month.{million, outcomeOf}
+use Rattle.factor.specs.Rule.{million}
+use Rattle.lagoon.specs.Month.{outcomeOf}
 use Rattle.lagoon.specs.Run.{withOf, runFrom, runOf}
 use Rattle.lagoon.proofs.Parts.{Through, SameLagoon}
 use Rattle.lagoon.proofs.Left.{left-more}

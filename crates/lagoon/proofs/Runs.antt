@@ -11,7 +11,8 @@ use lib.ListN.{length}
 use Rattle.lagoon.specs.declared.Month.{Month}
 use Rattle.lagoon.specs.declared.Standing.{Standing}
 use Rattle.lagoon.specs.declared.Totals.{Totals}
-use Rattle.lagoon.specs.Month.{million, availableOf}
+use Rattle.factor.specs.Rule.{million}
+use Rattle.lagoon.specs.Month.{availableOf}
 use Rattle.lagoon.specs.Run.{startOf, withOf, runFrom, monthsOf}
 use Rattle.lagoon.specs.Asks.{RunFits, enteredMost, gramsMost}
 use Rattle.lagoon.proofs.Conserved.{conserved, entered-at-most}

@@ -12,7 +12,8 @@ use Rattle.units.specs.declared.solids.Solids.{Solids}
 use Rattle.units.specs.Grams.{solids, density, b0RuleOf}
 use Rattle.lagoon.specs.declared.Month.{Month}
 use Rattle.lagoon.specs.declared.Totals.{Totals}
-use Rattle.lagoon.specs.Month.{million, emptyOf, enteredOf, outcomeOf}
+use Rattle.factor.specs.Rule.{million}
+use Rattle.lagoon.specs.Month.{emptyOf, enteredOf, outcomeOf}
 use Rattle.lagoon.specs.Run.{withOf, runFrom, runOf, yearOf}
 use Rattle.lagoon.proofs.Parts.{Through, AddsUp}
 use Rattle.lagoon.proofs.Same.{at}

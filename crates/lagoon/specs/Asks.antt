@@ -4,8 +4,8 @@ use mathlib.Core.Bool.{Bool}
 use mathlib.Core.List.{List}
 use mathlib.Core.Path.{_≡_}
 use lib.ListN.{length, getD}
+use Rattle.factor.specs.Rule.{million}
 use Rattle.lagoon.specs.declared.Standing.{Standing}
-use Rattle.lagoon.specs.Month.{million}
 
 -- the most that a month can enter within 01's ranges
 abbrev pub enteredMost : ℕ
@@ -16,7 +16,7 @@ abbrev pub gramsMost : ℕ
 gramsMost = 2 ^ 44
 
 pub record RunFits (standing : Standing) (entered factors : List ℕ) (drained : List Bool) : Type 0 where
-  pub room : standing .0 .0 + length entered * enteredMost ≤ 120 * enteredMost
+  pub room : standing .0 .0 + length entered * enteredMost < gramsMost
   pub entry : (i : ℕ) → i < length entered → getD entered i 0 ≤ enteredMost
   pub factor : (i : ℕ) → i < length entered → getD factors i 0 ≤ million
   pub factors-long : length factors ≡ length entered

@@ -3,13 +3,10 @@ use Prim.Native.Nat.{ℕ, _+_, _*_, _-_, _/_}
 use mathlib.Core.Bool.{cond}
 use Rattle.units.specs.declared.solids.Solids.{Solids}
 use Rattle.units.specs.Grams.{solids, shareOf}
+use Rattle.factor.specs.Rule.{million}
 use Rattle.lagoon.specs.declared.Month.{Month}
 use Rattle.lagoon.specs.declared.Outcome.{Outcome}
 use Rattle.lagoon.specs.declared.Standing.{Standing}
-
--- the factor counts millionths
-abbrev pub million : ℕ
-million = 1000000
 
 -- entered: 8 tenths are the protocol's calibration; the rest of the divisor brings the fields' units to grams
 unfoldable pub enteredOf : ℕ → ℕ → ℕ → ℕ → ℕ → Solids

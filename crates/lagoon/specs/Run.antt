@@ -5,6 +5,7 @@ use mathlib.Core.Bool.{Bool, false}
 use mathlib.Core.List.{List}
 use lib.ListN.{getD}
 use Rattle.units.specs.Grams.{solids}
+use Rattle.calendar.specs.Days.{monthsInYear}
 use Rattle.lagoon.specs.declared.Month.{Month}
 use Rattle.lagoon.specs.declared.Standing.{Standing}
 use Rattle.lagoon.specs.declared.Totals.{Totals}
@@ -39,7 +40,9 @@ after k months m = months (k + m)
 
 -- the twelve months of year y (1 to 10), from the standing that the years before it handed on
 unfoldable pub yearOf : (ℕ → Month) → ℕ → Totals
-yearOf months y = runFrom (runOf months (12 * (y - 1)) .standing) (after (12 * (y - 1)) months) 12
+yearOf months y =
+    let before = monthsInYear * (y - 1) in
+    runFrom (runOf months before .standing) (after before months) monthsInYear
 
 -- months by three lists of what entered, of factors and of drain marks
 abbrev pub monthsOf : List ℕ → List ℕ → List Bool → ℕ → Month

@@ -2,13 +2,11 @@
 ghost use mathlib.Core.Path.{_≡_};
 ghost use Prim.Native.Nat.{_+_, _≤_, _<_};
 ghost use lib.ListN.{length};
-ghost use Rattle.lagoon.specs.Month.{million, enteredOf, emptyOf, availableOf, outcomeOf};
+ghost use Rattle.factor.specs.Rule.{million};
+ghost use Rattle.lagoon.specs.Month.{enteredOf, emptyOf, availableOf, outcomeOf};
 ghost use Rattle.lagoon.specs.Run.{startOf, withOf, runFrom, monthsOf};
 ghost use Rattle.lagoon.specs.Asks.{gramsMost, RunFits};
 use units::Solids;
-
-// The temperature factor counts millionths.
-pub const MILLION: u64 = 1_000_000;
 
 // The protocol's calibration, 0.8, in tenths.
 const CALIBRATION: u64 = 8;
@@ -72,7 +70,7 @@ impl Standing {
         let entered = month.entered;
         let carried = self.0;
         let available = entered.plus(carried);
-        let degraded = available.share(month.factor, MILLION);
+        let degraded = available.share(month.factor, factor::MILLION);
         let left = available.less(degraded);
         let nothing = Solids::of_grams(0);
         let drained = month.drained;
