@@ -9,8 +9,10 @@ use lib.ListN.{length}
 use Rattle.book.specs.Book.{bookBytes, emptyBook}
 use Rattle.book.specs.declared.Posted.{Posted}
 use Rattle.book.specs.declared.Posted.the-variants.{Taken, Refused as RefusedRecord}
+use Rattle.units.specs.Grams.{solids, co2e}
 use Rattle.year.specs.declared.Answer.{Answer}
 use Rattle.year.specs.declared.Answer.the-variants.{Stated, Refused as RefusedYear}
+use Rattle.year.specs.declared.Figures.{Figures}
 use Rattle.meter.specs.declared.MonthAnswer.{MonthAnswer}
 use Rattle.meter.specs.declared.MonthAnswer.the-variants.{Destroyed, Refused as RefusedMonth}
 use Rattle.reading.specs.declared.Measure.{Measure}
@@ -32,11 +34,11 @@ abbrev pub postedOf : Posted → CabinetPosted
 postedOf Taken = record { number = 0; place = 0 }
 postedOf (RefusedRecord number place) = record { number = number; place = place }
 
-abbrev pub yearOf : Answer → CabinetYear
-yearOf (Stated figures) =
+abbrev pub yearBy : ℕ → ℕ → Figures → CabinetYear
+yearBy number place figures =
     record {
-      number = 0;
-      place = 0;
+      number = number;
+      place = place;
       entered = figures .entered .0;
       degraded = figures .degraded .0;
       removed = figures .removed .0;
@@ -47,20 +49,14 @@ yearOf (Stated figures) =
       net = figures .net;
       credited = figures .credited;
     }
-yearOf (RefusedYear number place) =
-    record {
-      number = number;
-      place = place;
-      entered = 0;
-      degraded = 0;
-      removed = 0;
-      carried = 0;
-      baseline = 0;
-      project = 0;
-      metered = 0;
-      net = pos 0;
-      credited = 0;
-    }
+
+-- no figures: all are 0
+abbrev pub noFigures : Figures
+noFigures = record { entered = solids 0; degraded = solids 0; removed = solids 0; carried = solids 0; baseline = co2e 0; project = co2e 0; metered = co2e 0; net = pos 0; credited = 0 }
+
+abbrev pub yearOf : Answer → CabinetYear
+yearOf (Stated figures) = yearBy 0 0 figures
+yearOf (RefusedYear number place) = yearBy number place noFigures
 
 abbrev pub monthOf : MonthAnswer → CabinetMonth
 monthOf (Destroyed methane) = record { number = 0; place = 0; destroyed = methane .0 }

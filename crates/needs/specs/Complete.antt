@@ -1,8 +1,7 @@
 -- Refusal 8: the year lacks a record that it needs (01, "Refusal numbers").
-use Prim.Native.Nat.{ℕ, _-_, _<_}
+use Prim.Native.Nat.{ℕ}
 use mathlib.Core.Bool.{Bool, true, false, cond, not, _&&_, _||_}
 use mathlib.Core.List.{List}
-use mathlib.Core.Path.{_≡_}
 use lib.Dec.{ltb, leb}
 use Rattle.laws.specs.Counting.{first, some}
 use Rattle.keys.specs.Table.{lines}
@@ -49,10 +48,6 @@ unfoldable pub completeOf : List ℕ → ℕ → Completeness
 completeOf book year =
     cond (not (filled (firstYearOf book)) || not (anyLine book)) (Lacking 0)
     (cond (leb (lackingOf book year) (monthsThrough year)) (Lacking (lackingOf book year)) Complete)
-
--- the year before was complete, where there is one
-abbrev pub AfterComplete : List ℕ → ℕ → Type 0
-AfterComplete book year = 1 < year → completeOf book (year - 1) ≡ Complete
 
 -- the place of refusal 8
 abbrev pub placeOf : Completeness → ℕ

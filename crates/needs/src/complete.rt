@@ -7,7 +7,7 @@ ghost use Rattle.book.specs.Valid.{Valid};
 ghost use Rattle.slots.specs.declared.Seen.the-variants.{Value};
 ghost use Rattle.months.specs.Asks.{InPeriod};
 ghost use Rattle.needs.specs.Complete.{anyLine, unmeasured, uncounted, headless, lacks, lackingOf, completeOf, placeOf};
-ghost use Rattle.needs.specs.Asks.{LackNothing, Lined};
+ghost use Rattle.needs.specs.Asks.{Lined};
 use slots::Warmth;
 
 // Whether a year has its records, or the place of the refusal.
@@ -32,11 +32,10 @@ impl Completeness {
 const CATEGORY_FLAGS: usize = keys::CATEGORIES + 1;
 
 // Whether a year has the records that it needs. YR and a line are looked at first, and then each month
-// after the first ones, so many, that are known to lack nothing.
-pub fn complete(book: &[u8], year: usize, passed: usize) -> Completeness
+// through the year's end.
+pub fn complete(book: &[u8], year: usize) -> Completeness
     requires { ⌜ Valid (now book) ⌝ }
     requires { ⌜ InPeriod year ⌝ }
-    requires { ⌜ LackNothing (now book) year passed ⌝ }
     ensures { λ r. ⌜ r ≡ completeOf (now (book .entry)) year ⌝ }
 {
     if !months::is_filled(slots::first_year(book)) {
@@ -46,7 +45,7 @@ pub fn complete(book: &[u8], year: usize, passed: usize) -> Completeness
         return Completeness::Lacking(0);
     }
     let lined = lined_categories(book);
-    let month = first_lacking(book, year, passed, &lined);
+    let month = first_lacking(book, year, &lined);
     if month <= months::months_through(year) {
         return Completeness::Lacking(month as u64);
     }
@@ -79,15 +78,14 @@ fn lined_categories(book: &[u8]) -> [bool; CATEGORY_FLAGS]
 }
 
 // The lowest month that lacks a record, or the one past the year.
-fn first_lacking(book: &[u8], year: usize, passed: usize, lined: &[bool]) -> usize
+fn first_lacking(book: &[u8], year: usize, lined: &[bool]) -> usize
     requires { ⌜ Valid (now book) ⌝ }
     requires { ⌜ InPeriod year ⌝ }
-    requires { ⌜ LackNothing (now book) year passed ⌝ }
     requires { ⌜ Lined (now book) lines (now lined) ⌝ }
     ensures { λ r. ⌜ r ≡ lackingOf (now (book .entry)) year ⌝ }
 {
     let past = months::months_through(year) + 1;
-    for month in passed + 1..past {
+    for month in 1..past {
         if is_lacking(book, year, month, lined) {
             return month;
         }

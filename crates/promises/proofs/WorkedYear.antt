@@ -31,10 +31,10 @@ use Rattle.months.specs.Series.{firstYear, amountOf, monthsBefore, daysAt, fact
 use Rattle.credit.specs.Credit.{gramsOf, destroyedAt, operatorAt, operatorOver, operatorOf, totalOf}
 use Rattle.credit.specs.declared.Operator.{Operator}
 use Rattle.year.specs.Figures.{figuresBy, figuresOf}
-use Rattle.year.specs.Lines.{anaerobicOf, otherOf, bySystem, nothing, headsOf, lineIn, sumsOver, all, sumsOf, headAt, enteredAt, monthAt}
+use Rattle.lines.specs.Lines.{anaerobicOf, otherOf, bySystem, nothing, headsOf, lineIn, sumsOver, all, sumsOf, headAt, enteredAt, monthAt}
 use Rattle.year.specs.declared.Figures.{Figures}
-use Rattle.year.specs.declared.lines.Sums.{Sums}
-use Rattle.year.proofs.SameMonths.{same-year}
+use Rattle.lines.specs.declared.Sums.{Sums}
+use Rattle.lines.proofs.SameMonths.{same-year}
 use Rattle.promises.proofs.Promise.{Answered}
 use Rattle.promises.proofs.Records as Records
 use Rattle.promises.proofs.Records.{lineRecord}

@@ -1,30 +1,27 @@
 -- The walk over the years: what is laid, and what the later years print, are together what is printed. Assumes nothing.
-use mathlib.Core.Path.{_≡_, refl, sym, ap, subst, _∙_}
+use mathlib.Core.Path.{_≡_, refl, sym, ap, _∙_}
 use mathlib.Core.List.{List, [], _++_, append-assoc, append-nil}
 use Prim.Native.Nat.{ℕ, suc, _+_, _*_, _-_, _≤_, _<_}
 use native.Mathlib.Omega.{arith}
 use lib.ListN.{length}
-use Rattle.needs.specs.declared.complete.Completeness.the-variants.{Complete}
-use Rattle.needs.specs.Complete.{completeOf, AfterComplete}
+use Rattle.months.specs.Series.{lastYear}
 use Rattle.year.specs.declared.Figures.{Figures}
 use Rattle.year.specs.declared.Answer.{Answer}
 use Rattle.year.specs.declared.Answer.the-variants.{Stated, Refused}
-use Rattle.year.specs.Answer.{answerOf, carriedPast}
-use Rattle.year.specs.Lines.{carriedAfter}
-use Rattle.year.proofs.Answers.{stated-complete}
+use Rattle.year.specs.Answer.{answerOf}
 use Rattle.page.specs.Page.{Lays}
 use Rattle.page.specs.Line.{refusalLine}
 use Rattle.page.proofs.Laying.{joined, laid-length, laid-none}
-use Rattle.text.specs.Lines.{yearLines, answerLines, yearsFrom, years, printed}
+use Rattle.text.specs.Lines.{yearLines, answerLines, yearsFrom, printed}
 use Rattle.text.specs.Page.{yearBytes, pageBytes}
 
 -- the lines of a year and of those after it
 unfoldable pub from : List ℕ → ℕ → List ℕ
-from book year = yearsFrom book year (suc years - year)
+from book year = yearsFrom book year (suc lastYear - year)
 
 pub record Walked (book start : List ℕ) (year at : ℕ) (page : List ℕ) : Type 0 where
   pub first : 1 ≤ year
-  pub last : year ≤ suc years
+  pub last : year ≤ suc lastYear
   pub room : at + yearBytes ≤ year * yearBytes
   pub text : List ℕ
   pub lays : Lays start 0 text at page
@@ -39,11 +36,11 @@ pub size : {book start page : List ℕ} {year at : ℕ} → Walked book start ye
 size {book} {start} {page} {year} {at} w h =
     ap length (w .lays .page) ∙ laid-length start 0 (w .text) (omega (arith, w .room, w .last, w .lays .ends))
 
-one-year : (book : List ℕ) (year : ℕ) → year ≤ years → from book year ≡ answerLines year (answerOf book year) (from book (year + 1))
+one-year : (book : List ℕ) (year : ℕ) → year ≤ lastYear → from book year ≡ answerLines year (answerOf book year) (from book (year + 1))
 unfolding from yearsFrom
-one-year book year h = let e : suc years - year ≡ suc (suc years - (year + 1)) = omega arith in ap (yearsFrom book year) e
+one-year book year h = let e : suc lastYear - year ≡ suc (suc lastYear - (year + 1)) = omega arith in ap (yearsFrom book year) e
 
-module _ {book start page : List ℕ} {year at : ℕ} (w : Walked book start year at page) (h : year ≤ years) {answer : Answer} (e : answer ≡ answerOf book year) where
+module _ {book start page : List ℕ} {year at : ℕ} (w : Walked book start year at page) (h : year ≤ lastYear) {answer : Answer} (e : answer ≡ answerOf book year) where
   answered : printed book ≡ w .text ++ answerLines year answer (from book (year + 1))
   answered = w .rest ∙ ap (λ (t : List ℕ). w .text ++ t) (one-year book year h) ∙ ap (λ (a : Answer). w .text ++ answerLines year a (from book (year + 1))) (sym e)
 
@@ -70,19 +67,8 @@ module _ {book start page : List ℕ} {year at : ℕ} (w : Walked book start yea
   refused {number} {place} {end} {after} d x =
       rw (answered ∙ ap (λ (a : Answer). w .text ++ answerLines year a (from book (year + 1))) d) (joined (w .lays) x (omega arith))
 
-  -- the walk goes on from the year that was stated
-  module _ {f : Figures} (d : answer ≡ Stated f) where
-    next : year ≡ year + 1 - 1
-    next = omega arith
-
-    pub carried-next : {carried : List ℕ} → carried ≡ carriedPast book year answer → carried ≡ carriedAfter book (year + 1 - 1)
-    carried-next is = is ∙ ap (carriedPast book year) d ∙ ap (carriedAfter book) next
-
-    pub complete-next : AfterComplete book (year + 1)
-    complete-next later = subst (λ (y : ℕ). completeOf book y ≡ Complete) next (stated-complete book year (sym e ∙ d))
-
-pub ended : {book start page : List ℕ} {year at : ℕ} → Walked book start year at page → years < year → Lays start 0 (printed book) at page
+pub ended : {book start page : List ℕ} {year at : ℕ} → Walked book start year at page → lastYear < year → Lays start 0 (printed book) at page
 unfolding from yearsFrom
 ended {book} {start} {page} {year} {at} w h =
-    let none : suc years - year ≡ 0 = omega arith in
+    let none : suc lastYear - year ≡ 0 = omega arith in
     rw (w .rest ∙ ap (λ (n : ℕ). w .text ++ yearsFrom book year n) none ∙ append-nil (w .text)) (w .lays)

@@ -1,6 +1,7 @@
 -- What the year program prints for a book (01, "Figures to check"): each line ends with a newline. Assumes nothing.
 use Prim.Native.Nat.{ℕ, zero, suc, _+_}
 use mathlib.Core.List.{List, [], _++_}
+use Rattle.months.specs.Series.{firstYear, lastYear}
 use Rattle.year.specs.declared.Figures.{Figures}
 use Rattle.year.specs.declared.Answer.{Answer}
 use Rattle.year.specs.declared.Answer.the-variants.{Stated, Refused}
@@ -41,8 +42,5 @@ yearsFrom book year zero = []
 yearsFrom book year (suc n) = answerLines year (answerOf book year) (yearsFrom book (year + 1) n)
 
 -- the years that are printed: 1 to 10
-abbrev pub years : ℕ
-years = 10
-
 unfoldable pub printed : List ℕ → List ℕ
-printed book = yearsFrom book 1 years
+printed book = yearsFrom book firstYear lastYear

@@ -21,18 +21,15 @@ const YEAR_BYTES: usize = 286;
 
 pub const PAGE_BYTES: usize = YEARS as usize * YEAR_BYTES;
 
-// The years of a book, from the page's first byte on. The first that is refused prints its refusal and is the last.
+// The years of a book, each worked out by itself, from the page's first byte on. The first that is refused
+// prints its refusal and is the last.
 pub fn lay_years(book: &[u8], page: &mut [u8]) -> usize
     requires { ⌜ (Valid (now book)) × (pageBytes ≤ length (now page)) ⌝ }
     ensures { λ r. ⌜ Lays (now (page .entry)) 0 (printed (now (book .entry))) r (now (page .exit)) ⌝ }
 {
-    let mut carried = [0u64; year::LINES];
     let mut at = 0;
     for year in 1..=YEARS {
-        let walked = year::year_after(book, year, carried);
-        carried = walked.carried;
-        let answer = walked.answer;
-        match answer {
+        match year::year(book, year) {
             Answer::Stated(figures) => {
                 at = lay_year(page, at, year, figures);
             }

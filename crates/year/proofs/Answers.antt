@@ -93,18 +93,3 @@ module _ (book : List ℕ) (v : Valid book) (year place : ℕ) where
   pub no-twelve : answerOf book year ≡ Refused 12 place → ⊥
   unfolding answerOf
   no-twelve = by-year (ltb year firstYear) (ltb lastYear year) refl refl
-
--- a year that is stated was complete
-by-found : (book : List ℕ) (year : ℕ) {figures : Figures} (found : Completeness) → byComplete book year found ≡ Stated figures → found ≡ Complete
-by-found book year (Lacking place) e = let z : _≡_ {A = ℕ} 0 1 = cc in absurd (omega arith)
-by-found book year Complete e = refl
-
-by-period :
-    (book : List ℕ) (year : ℕ) {figures : Figures} (outside : Bool) →
-    cond outside (Refused 9 0) (byComplete book year (completeOf book year)) ≡ Stated figures → completeOf book year ≡ Complete
-by-period book year true e = let z : _≡_ {A = ℕ} 0 1 = cc in absurd (omega arith)
-by-period book year false e = by-found book year (completeOf book year) e
-
-pub stated-complete : (book : List ℕ) (year : ℕ) {figures : Figures} → answerOf book year ≡ Stated figures → completeOf book year ≡ Complete
-unfolding answerOf
-stated-complete book year e = by-period book year (ltb year firstYear || ltb lastYear year) e

@@ -24,10 +24,10 @@ use Rattle.credit.proofs.Bounds.{operator-most}
 use Rattle.credit.proofs.Signs.{minus-size, total-size, from-zero}
 use Rattle.year.specs.Answer.{gramsBy, anyAbove, sumLimit, passes}
 use Rattle.year.specs.Figures.{figuresBy, figuresOf}
-use Rattle.year.specs.Lines.{headsOf, all, sumsOf}
+use Rattle.lines.specs.Lines.{headsOf, all, sumsOf}
 use Rattle.year.specs.declared.Figures.{Figures}
-use Rattle.year.specs.declared.lines.Sums.{Sums}
-use Rattle.year.proofs.Bounds.{sums-most, heads-most}
+use Rattle.lines.specs.declared.Sums.{Sums}
+use Rattle.lines.proofs.Bounds.{sums-most, heads-most}
 
 -- a list of numbers that are at most the most
 data Under (most : ℕ) : List ℕ → Type 0 where

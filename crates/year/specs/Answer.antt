@@ -1,5 +1,5 @@
 -- The year's answer: refusals 9, 8, 7 and 12 in this order, or the figures (01, "Refusal numbers", "The year").
-use Prim.Native.Nat.{ℕ, _-_, _^_}
+use Prim.Native.Nat.{ℕ, _^_}
 use mathlib.Core.Bool.{Bool, false, cond, _||_}
 use mathlib.Core.List.{List, [], _∷_}
 use lib.Dec.{ltb, leb}
@@ -14,10 +14,10 @@ use Rattle.needs.specs.declared.complete.Completeness.the-variants.{Complete, L
 use Rattle.credit.specs.Credit.{operatorOf, modelledOf, meteredOf, totalOf}
 use Rattle.credit.specs.declared.Operator.{Operator}
 use Rattle.year.specs.Figures.{figuresOf}
-use Rattle.year.specs.Lines.{headsOf, all, sumsOf, carriedAfter}
+use Rattle.lines.specs.Lines.{headsOf, all, sumsOf}
 use Rattle.year.specs.declared.Answer.{Answer}
 use Rattle.year.specs.declared.Answer.the-variants.{Stated, Refused}
-use Rattle.year.specs.declared.lines.Sums.{Sums}
+use Rattle.lines.specs.declared.Sums.{Sums}
 
 -- the sums of a year in grams, as whole numbers without an end; the modelled figure and the total by how far they are from 0
 abbrev pub gramsBy : Sums → Operator → List ℕ
@@ -54,8 +54,3 @@ byComplete book year Complete = wholeYear book year
 -- refusal 9, or what follows
 unfoldable pub answerOf : List ℕ → ℕ → Answer
 answerOf book year = cond (ltb year firstYear || ltb lastYear year) (Refused 9 0) (byComplete book year (completeOf book year))
-
--- what each line carries past a year that was answered: past the year's end where it is stated, and past the end of the year before where it is refused
-abbrev pub carriedPast : List ℕ → ℕ → Answer → List ℕ
-carriedPast book year (Stated figures) = carriedAfter book year
-carriedPast book year (Refused number place) = carriedAfter book (year - 1)

@@ -4,9 +4,9 @@ use mathlib.Core.List.{List}
 use Rattle.units.specs.Tonnes.{netOf, creditedOf}
 use Rattle.credit.specs.Credit.{operatorOf, meteredOf, totalOf}
 use Rattle.credit.specs.declared.Operator.{Operator}
-use Rattle.year.specs.Lines.{all, sumsOf}
+use Rattle.lines.specs.Lines.{all, sumsOf}
 use Rattle.year.specs.declared.Figures.{Figures}
-use Rattle.year.specs.declared.lines.Sums.{Sums}
+use Rattle.lines.specs.declared.Sums.{Sums}
 
 abbrev pub figuresBy : Sums → Operator → Figures
 figuresBy sums operator =

@@ -11,24 +11,18 @@ over-shared-requires c κs = search needs
 
 returns : tie.Need-returns
 returns c =
-    let start = c .before .before .before .before in
-    (over-is (now (start .args .book)) (start .args .year) (c .before .over-shared .ensures) (c .if1 .taken), start .pre .1 .1)
+    let start = c .before .before .before in
+    over-is (now (start .args .book)) (start .args .year) (c .before .over-shared .ensures) (c .if1 .taken)
 
-figures-from-requires : tie.Need-figures-from-requires
-figures-from-requires c κs = search needs
-
-same-length : tie.Need-same-length
-same-length c = search needs
+figures-of-requires : tie.Need-figures-of-requires
+figures-of-requires c κs = search needs
 
 returns-2 : tie.Need-returns-2
 returns-2 c =
-    let stated = c .before .before .figures-from .ensures in
-    let start = c .before .before .before .before .before .before .before .before in (
-      stated-is (now (start .args .book)) (start .args .year) (c .before .before .before .before .before .over-shared .ensures) (start .pre .0) (start .pre .1 .0) (c .before .before .before .before .if1 .left)
-          (stated .0),
-      stated .1,
-    )
+    let read = c .before .before in
+    let start = read .before .before in
+    stated-is (now (start .args .book)) (start .args .year) (read .over-shared .ensures) (start .pre .0) (start .pre .1) (c .before .if1 .left)
+    (c .figures-of .ensures)
 
 pub whole-year-spec : {M : Type 1} → statement M
-whole-year-spec =
-    tie.close (tie.spec over-shared-requires returns figures-from-requires same-length returns-2)
+whole-year-spec = tie.close (tie.spec over-shared-requires returns figures-of-requires returns-2)

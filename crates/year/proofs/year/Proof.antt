@@ -4,7 +4,6 @@ use native.Mathlib.Omega.{arith}
 use borrow.Author.Needs.{needs}
 use denote.Ref.{now}
 use Rattle.months.specs.Asks.{InPeriod}
-use Rattle.needs.proofs.Lacking.{none-passed}
 use Rattle.year.proofs.Answers.{complete-is, lacking-is, too-high, too-low}
 use Rattle.year.proofs.year.Statement.{statement}
 use Rattle.year.proofs.year.Tie as tie
@@ -22,7 +21,7 @@ complete-requires : tie.Need-complete-requires
 complete-requires c κs =
     let start = c .before .before .before in
     let inside : InPeriod (start .args .year) = record { low = omega (arith, c .before .if1 .left); high = omega (arith, c .if2 .left) } in
-    (start .pre, (inside, none-passed (now (start .args .book)) (start .args .year)))
+    (start .pre, inside)
 
 enum-told : tie.Need-enum-told
 enum-told c = search needs
@@ -39,21 +38,15 @@ returns-3 c =
     let start = made .before .before .before .before in
     lacking-is (now (start .args .book)) (start .args .year) (period made) (made .complete .ensures) (c .before .enum-told2 .given .1) (c .place .ensures)
 
-carried-before-requires : tie.Need-carried-before-requires
-carried-before-requires c κs = search needs
-
-slice-aggregate-whole-year : tie.Need-slice-aggregate-whole-year
-slice-aggregate-whole-year c = search needs
-
 whole-year-requires : tie.Need-whole-year-requires
 whole-year-requires c κs = search needs
 
 returns-4 : tie.Need-returns-4
 returns-4 c =
-    let made = c .before .before .before .before .before .before in
+    let made = c .before .before .before in
     let start = made .before .before .before .before in
-    complete-is (now (start .args .book)) (start .args .year) (period made) (made .complete .ensures) (c .before .before .before .before .enum-told .given .1)
-    (c .before .whole-year .ensures .0)
+    complete-is (now (start .args .book)) (start .args .year) (period made) (made .complete .ensures) (c .before .enum-told .given .1)
+    (c .whole-year .ensures)
 
 pub year-spec : {M : Type 1} → statement M
 year-spec =
@@ -66,7 +59,5 @@ year-spec =
     enum-told-2
     place-requires
     returns-3
-    carried-before-requires
-    slice-aggregate-whole-year
     whole-year-requires
     returns-4)

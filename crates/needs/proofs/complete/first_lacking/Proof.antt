@@ -3,22 +3,20 @@
 use Prim.Native.Nat.{_+_, _-_, _≤_}
 use mathlib.Core.Path.{sym, _∙_, _≡_}
 use native.Mathlib.Omega.{arith}
-use denote.Ref.{now}
-use Rattle.laws.proofs.Counting.{found, none, passed}
+use Rattle.laws.proofs.Counting.{begins, found, none, passed}
 use Rattle.laws.specs.Counting.{first, firstFrom}
 use Rattle.months.specs.Series.{monthsThrough}
 use Rattle.needs.specs.Complete.{lackingOf, lacks}
-use Rattle.needs.proofs.Passing.{starts-past}
 use Rattle.needs.proofs.complete.first_lacking.Statement.{statement}
 use Rattle.needs.proofs.complete.first_lacking.Tie as tie
 
 abbrev Inv-loop : tie.InvT-loop
-Inv-loop book year passed lined past month₀ month =
+Inv-loop book year lined past month₀ month =
     (1 ≤ month) × (month ≤ past) × (past ≡ monthsThrough year + 1) ×
     (first (monthsThrough year) (lacks book year) ≡ firstFrom month (monthsThrough year + 1 - month) (lacks book year))
 
 abbrev μ-loop : tie.MeasureT-loop
-μ-loop book year passed lined past month₀ month = past - month
+μ-loop book year lined past month₀ month = past - month
 
 months-through-requires : tie.Need-months-through-requires Inv-loop μ-loop
 months-through-requires c κs = c .before .before .pre .1 .0
@@ -26,23 +24,13 @@ months-through-requires c κs = c .before .before .pre .1 .0
 add-past : tie.Need-add-past Inv-loop μ-loop
 add-past c = omega (arith, c .months-through .ensures, c .before .before .before .pre .1 .0 .high)
 
-add-month : tie.Need-add-month Inv-loop μ-loop
-add-month c = let start = c .before .before .before in omega (arith, start .pre .1 .1 .0 .within, start .pre .1 .0 .high)
-
 loop-holds : tie.Need-loop-holds Inv-loop μ-loop
-loop-holds c =
-    let start = c .before .before .before in
-    let whole = start .pre .1 .1 .0 in (
-      omega arith,
-      omega (arith, c .months-through .ensures, whole .within),
-      omega (arith, c .months-through .ensures),
-      starts-past (lacks (now (start .args .book)) (start .args .year)) (monthsThrough (start .args .year)) (start .args .passed) (whole .within) (whole .each),
-    )
+loop-holds c = (omega arith, omega arith, omega (arith, c .months-through .ensures), begins _ _)
 
 is-lacking-requires : tie.Need-is-lacking-requires Inv-loop μ-loop
 is-lacking-requires c κs = let start = c .before .before .before .before .before in (
   start .pre .0,
-  (start .pre .1 .0, (omega (arith, c .before .loop .inv .2, start .pre .1 .0 .high), start .pre .1 .1 .1)),
+  (start .pre .1 .0, (omega (arith, c .before .loop .inv .2, start .pre .1 .0 .high), start .pre .1 .1)),
 )
 
 returns : tie.Need-returns Inv-loop μ-loop
@@ -51,8 +39,8 @@ returns c =
     let loop = c .before .before .before .loop in
     found _ (loop .month) _ (loop .inv .3) (omega arith) (sym (c .before .is-lacking .ensures) ∙ c .if1 .taken)
 
-add-month-2 : tie.Need-add-month-2 Inv-loop μ-loop
-add-month-2 c = omega (arith, c .before .before .before .loop .inv .2, c .before .before .before .before .before .before .before .pre .1 .0 .high)
+add-month : tie.Need-add-month Inv-loop μ-loop
+add-month c = omega (arith, c .before .before .before .loop .inv .2, c .before .before .before .before .before .before .before .pre .1 .0 .high)
 
 loop-less : tie.Need-loop-less Inv-loop μ-loop
 loop-less c = omega arith
@@ -76,11 +64,10 @@ first-lacking-spec =
     μ-loop
     months-through-requires
     add-past
-    add-month
     loop-holds
     is-lacking-requires
     returns
-    add-month-2
+    add-month
     loop-less
     loop-again
     returns-2)

@@ -34,7 +34,7 @@ is-uncounted-requires c κs = let start = c .before .before .before .before .bef
 returns : tie.Need-returns Inv-loop μ-loop
 returns c =
     let start = c .before .before .before .before .before .before .before in
-    headless-found (now (start .args .book)) (start .args .month) (start .pre .1 .1) (c .before .before .before .before .loop .category) (omega arith)
+    headless-found (now (start .args .book)) (start .args .month) (start .pre .1 .1) (c .before .before .before .before .loop .category) (omega arith) (omega arith)
     (sym (c .before .is-uncounted .ensures) ∙ c .if1 .taken)
 
 add-category : tie.Need-add-category Inv-loop μ-loop

@@ -1,0 +1,289 @@
+// The lines of a year: Equation 5.3 for the anaerobic ones, month by month from the first, and Equation 5.4
+// for the others.
+ghost use mathlib.Core.Path.{_≡_};
+ghost use mathlib.Core.Bool.{Bool, false};
+ghost use Prim.Native.Nat.{ℕ, _+_, _-_, _≤_, _<_, _^_};
+ghost use Rattle.calendar.specs.Days.{monthsInYear};
+ghost use Rattle.lagoon.specs.Run.{runOf, yearOf};
+ghost use Rattle.lagoon.specs.Asks.{gramsMost};
+ghost use Rattle.keys.specs.Table.{lines, categories, months};
+ghost use Rattle.book.specs.Valid.{Valid};
+ghost use Rattle.slots.specs.Reads.{lineOf, drainedOf};
+ghost use Rattle.months.specs.Series.{monthsBefore, daysAt, factorAt};
+ghost use Rattle.months.specs.Asks.{InPeriod, Holds};
+ghost use Rattle.lines.specs.Lines.{headAt, enteredAt, monthAt, nothing, baselineAlone, anaerobicOf, headsOf, otherOf, lineIn, plus, all, sumsOf};
+ghost use Rattle.lines.specs.Asks.{carriedBy, Carried, allGrams};
+use lagoon::Standing;
+use lagoon::Totals;
+use months::MONTHS_IN_YEAR;
+use slots::Line;
+use slots::Seen;
+use units::Co2e;
+use units::Solids;
+
+// A number for each line.
+const LINES: usize = keys::LINES;
+
+// LN's system 0.
+const ANAEROBIC: u64 = 0;
+
+// Twelve, for the average of the year's heads, times what brings the fields' units to grams.
+const DAILY_PARTS: u64 = 120_000_000;
+
+// In leap years too.
+const DAYS_IN_YEAR: u64 = 365;
+
+// A conversion factor counts ten-thousandths.
+const CONVERSION_PARTS: u64 = 10_000;
+
+// Sums over lines: solids of the anaerobic ones, and the baseline.
+pub struct Sums {
+    pub entered: Solids,
+    pub degraded: Solids,
+    pub removed: Solids,
+    pub carried: Solids,
+    pub baseline: Co2e,
+}
+
+// All lines of a year. What each carries past the year before is worked out first, from the first month.
+pub fn sums_of(book: &[u8], year: usize) -> Sums
+    requires { ⌜ Valid (now book) ⌝ }
+    requires { ⌜ InPeriod year ⌝ }
+    ensures { λ r. ⌜ r ≡ sumsOf (now (book .entry)) year all ⌝ }
+{
+    let mut carried = carried_before(book, year);
+    sums_from(book, year, &mut carried)
+}
+
+// What each line carries past the year before: the years one after the other, from empty lagoons.
+fn carried_before(book: &[u8], year: usize) -> [u64; LINES]
+    requires { ⌜ Valid (now book) ⌝ }
+    requires { ⌜ InPeriod year ⌝ }
+    ensures { λ r. ⌜ Carried (now (book .entry)) (year - 1) r ⌝ }
+{
+    let mut carried = [0u64; LINES];
+    for earlier in 1..year {
+        sums_from(book, earlier, &mut carried);
+    }
+    carried
+}
+
+// All lines, from what each carried past the year before, which is left as what it carries past this
+// one. Days and factors are the months' alone, and worked out once.
+fn sums_from(book: &[u8], year: usize, carried: &mut [u64]) -> Sums
+    requires { ⌜ Valid (now book) ⌝ }
+    requires { ⌜ InPeriod year ⌝ }
+    requires { ⌜ Carried (now book) (year - 1) (now carried) ⌝ }
+    ensures { λ r. ⌜ r ≡ sumsOf (now (book .entry)) year all ⌝ }
+    ensures { λ _. ⌜ Carried (now (book .entry)) year (now (carried .exit)) ⌝ }
+{
+    let days = months::days(book, year);
+    let factors = months::factors(book, year);
+    let mut sums = Sums::nothing();
+    for line in 1..=LINES {
+        let own = line_in(book, year, line, carried[line - 1], &days, &factors);
+        let past = own.carried;
+        carried[line - 1] = past.grams();
+        sums = sums.plus(own);
+    }
+    sums
+}
+
+// One line, by its system, from what it carried past the year before.
+fn line_in(
+    book: &[u8],
+    year: usize,
+    line: usize,
+    carried: u64,
+    days: &[u64],
+    factors: &[u64],
+) -> Sums
+    requires { ⌜ Valid (now book) ⌝ }
+    requires { ⌜ InPeriod year ⌝ }
+    requires { ⌜ line ≤ lines ⌝ }
+    requires { ⌜ carried ≡ carriedBy (now book) (year - 1) line ⌝ }
+    requires { ⌜ Holds ℕ 0 (monthsBefore year) monthsInYear (daysAt (now book)) (now days) ⌝ }
+    requires { ⌜ Holds ℕ 0 (monthsBefore year) monthsInYear (factorAt (now book)) (now factors) ⌝ }
+    ensures { λ r. ⌜ r ≡ lineIn (now (book .entry)) year line ⌝ }
+{
+    let Seen::Value(system) = slots::system(book, line) else {
+        return Sums::nothing();
+    };
+    let numbers = slots::line_at(book, line);
+    if system == ANAEROBIC {
+        let from = Standing::of(Solids::of_grams(carried));
+        let totals = solids(book, year, line, numbers, from, days, factors);
+        return Sums::anaerobic(totals, numbers.b0);
+    }
+    other(book, year, line, numbers)
+}
+
+// The year's solids of an anaerobic line, from what it entered and when it was drained: its twelve
+// months, from the standing that those before them handed on.
+fn solids(
+    book: &[u8],
+    year: usize,
+    line: usize,
+    numbers: Line,
+    from: Standing,
+    days: &[u64],
+    factors: &[u64],
+) -> Totals
+    requires { ⌜ Valid (now book) ⌝ }
+    requires { ⌜ InPeriod year ⌝ }
+    requires { ⌜ line ≤ lines ⌝ }
+    requires { ⌜ numbers ≡ lineOf (now book) line ⌝ }
+    requires { ⌜ from ≡ runOf (monthAt (now book) line) (monthsBefore year) .standing ⌝ }
+    requires { ⌜ Holds ℕ 0 (monthsBefore year) monthsInYear (daysAt (now book)) (now days) ⌝ }
+    requires { ⌜ Holds ℕ 0 (monthsBefore year) monthsInYear (factorAt (now book)) (now factors) ⌝ }
+    ensures { λ r. ⌜ r ≡ yearOf (monthAt (now (book .entry)) line) year ⌝ }
+{
+    let entered = entries(book, year, line, numbers, days);
+    let drained = drains(book, year, line);
+    lagoon::run(from, &entered, factors, &drained)
+}
+
+// What a line enters, month by month of the year, in grams.
+fn entries(
+    book: &[u8],
+    year: usize,
+    line: usize,
+    numbers: Line,
+    days: &[u64],
+) -> [u64; MONTHS_IN_YEAR]
+    requires { ⌜ Valid (now book) ⌝ }
+    requires { ⌜ InPeriod year ⌝ }
+    requires { ⌜ line ≤ lines ⌝ }
+    requires { ⌜ numbers ≡ lineOf (now book) line ⌝ }
+    requires { ⌜ Holds ℕ 0 (monthsBefore year) monthsInYear (daysAt (now book)) (now days) ⌝ }
+    ensures { λ r. ⌜ Holds ℕ 0 (monthsBefore year) monthsInYear (λ m. enteredAt (now (book .entry)) line m .0) r ⌝ }
+{
+    let before = months::months_before(year);
+    let mut entries = [0u64; MONTHS_IN_YEAR];
+    for passed in 0..MONTHS_IN_YEAR {
+        let month = before + passed + 1;
+        entries[passed] = entry(book, line, numbers, month, days[passed]).grams();
+    }
+    entries
+}
+
+fn entry(book: &[u8], line: usize, numbers: Line, month: usize, days: u64) -> Solids
+    requires { ⌜ Valid (now book) ⌝ }
+    requires { ⌜ (line ≤ lines) × (month ≤ months) ⌝ }
+    requires { ⌜ numbers ≡ lineOf (now book) line ⌝ }
+    requires { ⌜ days ≡ daysAt (now book) month ⌝ }
+    ensures { λ r. ⌜ r ≡ enteredAt (now (book .entry)) line month ⌝ }
+{
+    let head = head(book, numbers.category as usize, month);
+    lagoon::entered(head, numbers.solids, numbers.mass, numbers.share, days)
+}
+
+fn head(book: &[u8], category: usize, month: usize) -> u64
+    requires { ⌜ Valid (now book) ⌝ }
+    requires { ⌜ (category ≤ categories) × (month ≤ months) ⌝ }
+    ensures { λ r. ⌜ r ≡ headAt (now (book .entry)) category month ⌝ }
+{
+    months::amount(slots::head(book, category, month))
+}
+
+// When a line was drained, month by month of the year.
+fn drains(book: &[u8], year: usize, line: usize) -> [bool; MONTHS_IN_YEAR]
+    requires { ⌜ Valid (now book) ⌝ }
+    requires { ⌜ InPeriod year ⌝ }
+    requires { ⌜ line ≤ lines ⌝ }
+    ensures { λ r. ⌜ Holds Bool false (monthsBefore year) monthsInYear (drainedOf (now (book .entry)) line) r ⌝ }
+{
+    let before = months::months_before(year);
+    let mut drains = [false; MONTHS_IN_YEAR];
+    for passed in 0..MONTHS_IN_YEAR {
+        drains[passed] = slots::drained(book, line, before + passed + 1);
+    }
+    drains
+}
+
+// The sum of the year's twelve heads.
+fn heads(book: &[u8], year: usize, category: usize) -> u64
+    requires { ⌜ Valid (now book) ⌝ }
+    requires { ⌜ InPeriod year ⌝ }
+    requires { ⌜ category ≤ categories ⌝ }
+    ensures { λ r. ⌜ r ≡ headsOf (now (book .entry)) year category ⌝ }
+{
+    let before = months::months_before(year);
+    let mut heads = 0;
+    for month in 1..=MONTHS_IN_YEAR {
+        heads += head(book, category, before + month);
+    }
+    heads
+}
+
+// Another line, by the sum of its heads: each division rounds down.
+fn other(book: &[u8], year: usize, line: usize, numbers: Line) -> Sums
+    requires { ⌜ Valid (now book) ⌝ }
+    requires { ⌜ InPeriod year ⌝ }
+    requires { ⌜ line ≤ lines ⌝ }
+    requires { ⌜ numbers ≡ lineOf (now book) line ⌝ }
+    ensures { λ r. ⌜ r ≡ otherOf (headsOf (now (book .entry)) year (numbers .category)) numbers ⌝ }
+{
+    let heads = heads(book, year, numbers.category as usize);
+    let daily = heads * numbers.solids * numbers.mass * numbers.share / DAILY_PARTS;
+    let yearly = Solids::of_grams(daily * DAYS_IN_YEAR);
+    let degraded = yearly.share(numbers.conversion, CONVERSION_PARTS);
+    Sums::baseline_alone(degraded.b0_rule(numbers.b0, units::POTENTIAL))
+}
+
+impl Sums {
+    fn nothing() -> Self
+        ensures { λ r. ⌜ r ≡ nothing ⌝ }
+    {
+        Sums::baseline_alone(Co2e::of_grams(0))
+    }
+
+    fn baseline_alone(baseline: Co2e) -> Self
+        ensures { λ r. ⌜ r ≡ baselineAlone baseline ⌝ }
+    {
+        let none = Solids::of_grams(0);
+        Sums {
+            entered: none,
+            degraded: none,
+            removed: none,
+            carried: none,
+            baseline,
+        }
+    }
+
+    // Of an anaerobic line, by its year's solids.
+    fn anaerobic(totals: Totals, b0: u64) -> Self
+        requires { ⌜ (totals .degraded .0 < gramsMost) × (b0 ≤ 100) ⌝ }
+        ensures { λ r. ⌜ r ≡ anaerobicOf totals b0 ⌝ }
+    {
+        let entered = totals.entered;
+        let degraded = totals.degraded;
+        let removed = totals.removed;
+        let standing = totals.standing;
+        Sums {
+            entered,
+            degraded,
+            removed,
+            carried: standing.carried(),
+            baseline: degraded.b0_rule(b0, units::POTENTIAL),
+        }
+    }
+
+    fn plus(self, other: Self) -> Self
+        requires { ⌜ allGrams self + allGrams other < 2 ^ 64 ⌝ }
+        ensures { λ r. ⌜ r ≡ plus self other ⌝ }
+    {
+        let entered = self.entered;
+        let degraded = self.degraded;
+        let removed = self.removed;
+        let carried = self.carried;
+        let baseline = self.baseline;
+        Sums {
+            entered: entered.plus(other.entered),
+            degraded: degraded.plus(other.degraded),
+            removed: removed.plus(other.removed),
+            carried: carried.plus(other.carried),
+            baseline: baseline.plus(other.baseline),
+        }
+    }
+}
