@@ -2,15 +2,15 @@
 use mathlib.Core.Path.{_≡_, refl, sym, _∙_}
 use Prim.Native.Nat.{ℕ}
 use lib.ListN.{length, replicate, length-replicate}
-use Rattle.keys.specs.Slot.{highestOf, count, total, slots}
+use Rattle.keys.specs.Slot.{count, total, slots}
 use Rattle.book.specs.Book.{bookBytes}
 
 pub slots-are : slots ≡ 6513
-unfolding highestOf count total slots
+unfolding count total slots
 slots-are = refl
 
 pub bytes-are : bookBytes ≡ 104208
-unfolding highestOf count total slots
+unfolding count total slots
 bytes-are = refl
 
 -- an array of so many zeros has a book's size

@@ -7,20 +7,19 @@ use lib.Dec.{lit≤}
 use Rattle.keys.specs.Table.{months, devices}
 use Rattle.book.specs.Valid.{Valid}
 use Rattle.slots.proofs.Ranges.{project-in, meter-in}
-use Rattle.slots.specs.Entries.{projectMethane, baselineCo2, projectCo2, destroyed}
 use Rattle.slots.specs.Reads.{projectMethaneOf, baselineCo2Of, projectCo2Of, destroyedOf}
 use Rattle.months.specs.Series.{amountOf}
 use Rattle.months.proofs.Ranges.{amount-most}
 
 module _ (book : List ℕ) (v : Valid book) where
   pub methane-most : (m : ℕ) → m ≤ months → amountOf (projectMethaneOf book m) < 2 ^ 32
-  methane-most m h = omega (arith, amount-most 0 4294967295 (projectMethaneOf book m) (project-in book v m h projectMethane (lit≤ tt) tt))
+  methane-most m h = omega (arith, amount-most 0 4294967295 (projectMethaneOf book m) (project-in book v m h 2 (lit≤ tt) tt))
 
   pub baseline-most : (m : ℕ) → m ≤ months → amountOf (baselineCo2Of book m) < 2 ^ 32
-  baseline-most m h = omega (arith, amount-most 0 4294967295 (baselineCo2Of book m) (project-in book v m h baselineCo2 (lit≤ tt) tt))
+  baseline-most m h = omega (arith, amount-most 0 4294967295 (baselineCo2Of book m) (project-in book v m h 3 (lit≤ tt) tt))
 
   pub project-most : (m : ℕ) → m ≤ months → amountOf (projectCo2Of book m) < 2 ^ 32
-  project-most m h = omega (arith, amount-most 0 4294967295 (projectCo2Of book m) (project-in book v m h projectCo2 (lit≤ tt) tt))
+  project-most m h = omega (arith, amount-most 0 4294967295 (projectCo2Of book m) (project-in book v m h 4 (lit≤ tt) tt))
 
   pub destroyed-most : (m device : ℕ) → m ≤ months → device ≤ devices → amountOf (destroyedOf book m device) ≤ 10 ^ 12
-  destroyed-most m device h k = amount-most 0 (10 ^ 12) (destroyedOf book m device) (meter-in book v m device h k destroyed (lit≤ tt) tt)
+  destroyed-most m device h k = amount-most 0 (10 ^ 12) (destroyedOf book m device) (meter-in book v m device h k 2 (lit≤ tt) tt)

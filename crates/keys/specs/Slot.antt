@@ -3,14 +3,7 @@
 use Prim.Native.Nat.{ℕ, _+_, _*_, _-_}
 use mathlib.Core.List.{List, [], _∷_}
 use lib.ListN.{take}
-use Rattle.keys.specs.Table.{Entry, zeros, key, field, Row, table, entriesOf}
-
--- the highest value of each byte of a key, among some entries
-unfoldable pub highestOf : List Entry → List ℕ
-highestOf [] = []
-highestOf (zeros n ∷ es) = highestOf es
-highestOf (key high ∷ es) = high ∷ highestOf es
-highestOf (field wide range ∷ es) = highestOf es
+use Rattle.keys.specs.Table.{Row, table, highestOf}
 
 -- how many keys there are, by the highest value of each byte; and how many come before a key, by its bytes
 unfoldable pub count : List ℕ → ℕ
@@ -22,17 +15,13 @@ index [] bytes = 0
 index (high ∷ highest) [] = 0
 index (high ∷ highest) (byte ∷ bytes) = (byte - 1) * count highest + index highest bytes
 
--- Each key has a slot. They stand by mark, as in the table, then by key bytes: how many slots some rows have, all, and those before a row.
+-- They stand by mark, as in the table, then by key bytes: how many slots some rows have, and all; and the slot of a key of a row.
 unfoldable pub total : List Row → ℕ
 total [] = 0
-total (row ∷ rows) = count (highestOf (row .entries)) + total rows
+total (row ∷ rows) = count (row .highest) + total rows
 
 unfoldable pub slots : ℕ
 slots = total table
 
-unfoldable pub firstSlot : ℕ → ℕ
-firstSlot row = total (take row table)
-
--- the slot of a key of a row
 unfoldable pub slotOf : ℕ → List ℕ → ℕ
-slotOf row bytes = firstSlot row + index (highestOf (entriesOf row)) bytes
+slotOf row bytes = total (take row table) + index (highestOf row) bytes

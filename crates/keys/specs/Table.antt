@@ -2,7 +2,7 @@
 -- Assumes nothing.
 use Prim.Native.Nat.{ℕ, _+_, _*_, _-_, _^_}
 use Prim.Native.Char.{Char, code}
-use mathlib.Core.List.{List, [], _∷_}
+use mathlib.Core.List.{List, [], _∷_, _++_, map}
 use lib.ListN.{getD}
 
 -- Which values a field may have: from one number to another; the same from 0, but only 0 where the byte at an offset is 0;
@@ -12,10 +12,9 @@ pub data Range : Type 0 where
   unless : ℕ → ℕ → Range
   signed : ℕ → ℕ → Range
 
--- What stands at the next bytes: so many zero bytes; a byte of the key, which counts from 1 to a number; or a field, by its bytes and its range.
+-- What stands at the next bytes: so many zero bytes; or a field, by its bytes and its range.
 pub data Entry : Type 0 where
   zeros : ℕ → Entry
-  key : ℕ → Entry
   field : ℕ → Range → Entry
 
 abbrev pub u8 : ℕ → ℕ → Entry
@@ -27,19 +26,15 @@ u16 low high = field 2 (from low high)
 abbrev pub u32 : ℕ → ℕ → Entry
 u32 low high = field 4 (from low high)
 
-abbrev pub u64 : ℕ → ℕ → Entry
-u64 low high = field 8 (from low high)
-
-abbrev pub i16 : ℕ → ℕ → Entry
-i16 below above = field 2 (signed below above)
-
--- a row: the two letters of its mark as the number that they make, and the entries after them
+-- A row: the two letters of its mark as the number that they make; the highest value of each byte of its key, which counts from 1 (01's line,
+-- category, month or device: they come first in every row); and the entries after the key.
 pub record Row : Type 0 where
   pub letters : ℕ
-  pub entries : List Entry
+  pub highest : List ℕ
+  pub after : List Entry
 
-abbrev pub mark : Char → Char → List Entry → Row
-mark first second after = record { letters = code first + 256 * code second; entries = after }
+abbrev pub mark : Char → Char → List ℕ → List Entry → Row
+mark first second highest after = record { letters = code first + 256 * code second; highest = highest; after = after }
 
 -- how many lines, categories, months and devices there are
 abbrev pub lines : ℕ
@@ -61,13 +56,13 @@ all = 256 ^ 4 - 1
 -- The seven rows, as 01 has them. LN's conversion factor is only 0 where its system, at offset 3, is 0.
 abbrev pub table : List Row
 table =
-    mark "Y" "R" (u16 2000 2089 ∷ u8 1 12 ∷ zeros 11 ∷ [])
-    ∷ mark "L" "N" (key lines ∷ u8 0 1 ∷ u8 1 categories ∷ zeros 1 ∷ u16 0 2000 ∷ u16 0 20000 ∷ u16 0 10000 ∷ u8 0 100 ∷ zeros 1 ∷ field 2 (unless 3 10000) ∷ [])
-    ∷ mark "H" "D" (key categories ∷ key months ∷ u32 0 100000 ∷ zeros 8 ∷ [])
-    ∷ mark "T" "P" (key months ∷ zeros 1 ∷ i16 500 600 ∷ zeros 10 ∷ [])
-    ∷ mark "D" "R" (key lines ∷ key months ∷ zeros 12 ∷ [])
-    ∷ mark "P" "E" (key months ∷ zeros 1 ∷ u32 0 all ∷ u32 0 all ∷ u32 0 all ∷ [])
-    ∷ mark "M" "T" (key months ∷ key devices ∷ u64 0 (10 ^ 12) ∷ zeros 4 ∷ [])
+    mark "Y" "R" [] (u16 2000 2089 ∷ u8 1 12 ∷ zeros 11 ∷ [])
+    ∷ mark "L" "N" (lines ∷ []) (u8 0 1 ∷ u8 1 categories ∷ zeros 1 ∷ u16 0 2000 ∷ u16 0 20000 ∷ u16 0 10000 ∷ u8 0 100 ∷ zeros 1 ∷ field 2 (unless 3 10000) ∷ [])
+    ∷ mark "H" "D" (categories ∷ months ∷ []) (u32 0 100000 ∷ zeros 8 ∷ [])
+    ∷ mark "T" "P" (months ∷ []) (zeros 1 ∷ field 2 (signed 500 600) ∷ zeros 10 ∷ [])
+    ∷ mark "D" "R" (lines ∷ months ∷ []) (zeros 12 ∷ [])
+    ∷ mark "P" "E" (months ∷ []) (zeros 1 ∷ u32 0 all ∷ u32 0 all ∷ u32 0 all ∷ [])
+    ∷ mark "M" "T" (months ∷ devices ∷ []) (field 8 (from 0 (10 ^ 12)) ∷ zeros 4 ∷ [])
     ∷ []
 
 -- the rows by number, in the table's order
@@ -92,9 +87,13 @@ pe = 5
 abbrev pub mt : ℕ
 mt = 6
 
--- a row that has no letters and no entries, for a number that is no row's
+-- a row that has nothing, for a number that is no row's
 abbrev pub noRow : Row
-noRow = record { letters = 0; entries = [] }
+noRow = record { letters = 0; highest = []; after = [] }
+
+-- the highest values of a row's key, and all the entries after its mark, the bytes of the key first
+abbrev pub highestOf : ℕ → List ℕ
+highestOf row = getD table row noRow .highest
 
 abbrev pub entriesOf : ℕ → List Entry
-entriesOf row = getD table row noRow .entries
+entriesOf row = map (u8 1) (highestOf row) ++ getD table row noRow .after

@@ -22,8 +22,7 @@ use Rattle.keys.specs.Table.{yr, ln, hd, tp, dr}
 use Rattle.book.proofs.Filling.{slot-byte}
 use Rattle.book.specs.Book.{recordAt, free}
 use Rattle.slots.proofs.Within.{number-slot}
-use Rattle.slots.specs.Entries.{firstYear, firstMonth, system, category, tableSolids, mass, share, b0, conversionFactor, head, temperature}
-use Rattle.slots.specs.Field.{placeOf, bytesOf, fieldAt, filledAt, seenAt, numberOf, seenOf, filledOf}
+use Rattle.slots.specs.Field.{placeOf, bytesOf, seenAt, numberOf, seenOf, filledOf}
 use Rattle.slots.specs.Reads.{firstYearOf, firstMonthOf, systemOf, lineOf, headOf, drainedOf}
 use Rattle.slots.specs.declared.Line.{Line}
 use Rattle.slots.specs.declared.Seen.{Seen}
@@ -39,7 +38,6 @@ Same one other row key = recordAt one (slotOf row key) ≡ recordAt other (slotO
 
 module _ (one other : List ℕ) (row : ℕ) (key : List ℕ) (same : Same one other row key) where
   same-number : (n : ℕ) → placeOf row n + bytesOf row n ≤ recordBytes → numberOf one row key n ≡ numberOf other row key n
-  unfolding fieldAt
   same-number n inside =
       sym (number-slot one (slotOf row key) (placeOf row n) (bytesOf row n) inside) ∙
       ap (λ (r : List ℕ). numberAt r (placeOf row n) (bytesOf row n)) same ∙
@@ -52,7 +50,7 @@ module _ (one other : List ℕ) (row : ℕ) (key : List ℕ) (same : Same one ot
       (sym (slot-byte one k 0 (lit≤ tt)) ∙ ap (λ (r : List ℕ). getD r 0 0) same ∙ slot-byte other k 0 (lit≤ tt))
 
   same-filled : filledOf one row key ≡ filledOf other row key
-  unfolding filledAt free
+  unfolding free
   same-filled = ap (λ (n : ℕ). not (eqb n 0)) first-byte
 
   same-seen : (n : ℕ) → placeOf row n + bytesOf row n ≤ recordBytes → seenOf one row key n ≡ seenOf other row key n
@@ -77,26 +75,26 @@ module _ (one other : List ℕ) (line year : ℕ) (same : SameLine one other lin
   same-line =
       let number = same-number one other ln (line ∷ []) (same .numbers) in
       rw (
-        number system (lit≤ tt),
-        number category (lit≤ tt),
-        number tableSolids (lit≤ tt),
-        number mass (lit≤ tt),
-        number share (lit≤ tt),
-        number b0 (lit≤ tt),
-        number conversionFactor (lit≤ tt),
+        number 1 (lit≤ tt),
+        number 2 (lit≤ tt),
+        number 4 (lit≤ tt),
+        number 5 (lit≤ tt),
+        number 6 (lit≤ tt),
+        number 7 (lit≤ tt),
+        number 9 (lit≤ tt),
       )
 
   same-days : (m : ℕ) → daysAt one m ≡ daysAt other m
   unfolding daysAt
   same-days m =
-      ap (λ (s : Seen). daysOf (amountOf s) (amountOf (firstMonthOf one)) m) (same-seen one other yr [] (same .start) firstYear (lit≤ tt)) ∙
-      ap (λ (s : Seen). daysOf (amountOf (firstYearOf other)) (amountOf s) m) (same-seen one other yr [] (same .start) firstMonth (lit≤ tt))
+      ap (λ (s : Seen). daysOf (amountOf s) (amountOf (firstMonthOf one)) m) (same-seen one other yr [] (same .start) 0 (lit≤ tt)) ∙
+      ap (λ (s : Seen). daysOf (amountOf (firstYearOf other)) (amountOf s) m) (same-seen one other yr [] (same .start) 1 (lit≤ tt))
 
   module _ (m : ℕ) (low : 1 ≤ m) (high : m ≤ monthsThrough year) where
     pub same-head : headAt one (lineOf one line .category) m ≡ headAt other (lineOf other line .category) m
     unfolding headAt
     same-head =
-        ap amountOf (same-seen one other hd (lineOf one line .category ∷ m ∷ []) (same .heads m low high) head (lit≤ tt)) ∙
+        ap amountOf (same-seen one other hd (lineOf one line .category ∷ m ∷ []) (same .heads m low high) 2 (lit≤ tt)) ∙
         ap (λ (x : Line). amountOf (headOf other (x .category) m)) same-line
 
     same-entered : enteredAt one line m ≡ enteredAt other line m
@@ -113,10 +111,10 @@ module _ (one other : List ℕ) (line year : ℕ) (same : SameLine one other lin
     same-factor : factorAt one m ≡ factorAt other m
     unfolding factorAt
     same-factor =
-        ap (λ (b : Bool). factorBy (cond b (Tenths (signedOf (numberOf one tp (m ∷ []) temperature))) Unknown))
+        ap (λ (b : Bool). factorBy (cond b (Tenths (signedOf (numberOf one tp (m ∷ []) 2))) Unknown))
         (same-filled one other tp (m ∷ []) (same .temperatures m low high)) ∙
         ap (λ (n : ℕ). factorBy (cond (filledOf other tp (m ∷ [])) (Tenths (signedOf n)) Unknown))
-        (same-number one other tp (m ∷ []) (same .temperatures m low high) temperature (lit≤ tt))
+        (same-number one other tp (m ∷ []) (same .temperatures m low high) 2 (lit≤ tt))
 
     pub same-month : monthAt one line m ≡ monthAt other line m
     unfolding monthAt
@@ -142,7 +140,7 @@ module _ (one other : List ℕ) (line year : ℕ) (same : SameLine one other lin
       ap
       (λ (s : Seen). bySystem s (anaerobicOf (yearOf (monthAt one line) year) (lineOf one line .b0)) (otherOf (headsOf one year
       (lineOf one line .category)) (lineOf one line)))
-      (same-seen one other ln (line ∷ []) (same .numbers) system (lit≤ tt)) ∙
+      (same-seen one other ln (line ∷ []) (same .numbers) 1 (lit≤ tt)) ∙
       ap
       (λ (t : Totals). bySystem (systemOf other line) (anaerobicOf t (lineOf one line .b0)) (otherOf (headsOf one year (lineOf one line .category))
       (lineOf one line)))

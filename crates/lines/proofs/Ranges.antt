@@ -12,7 +12,6 @@ use Rattle.lagoon.specs.Month.{million}
 use Rattle.keys.specs.Table.{lines, categories, months}
 use Rattle.book.specs.Valid.{Valid}
 use Rattle.slots.proofs.Ranges.{head-in, numbers-in}
-use Rattle.slots.specs.Entries.{head}
 use Rattle.slots.specs.Reads.{firstYearOf, firstMonthOf, lineOf, headOf, temperatureOf}
 use Rattle.slots.specs.declared.Line.{Line}
 use Rattle.slots.specs.declared.Warmth.{Warmth}
@@ -58,7 +57,7 @@ module _ (book : List ℕ) (v : Valid book) where
 
   pub head-most : (category m : ℕ) → category ≤ categories → m ≤ months → headAt book category m ≤ 100000
   unfolding headAt
-  head-most category m h k = amount-most 0 100000 (headOf book category m) (head-in book v category m h k head (lit≤ tt) tt)
+  head-most category m h k = amount-most 0 100000 (headOf book category m) (head-in book v category m h k 2 (lit≤ tt) tt)
 
   pub entry-most : (line m : ℕ) → line ≤ lines → m ≤ months → enteredAt book line m .0 ≤ enteredMost
   unfolding enteredAt

@@ -6,7 +6,6 @@ use native.Mathlib.Omega.{arith}
 use lib.Dec.{lit≤}
 use Rattle.book.specs.Valid.{Valid}
 use Rattle.slots.proofs.Ranges.{In, year-in}
-use Rattle.slots.specs.Entries.{firstYear, firstMonth}
 use Rattle.slots.specs.Reads.{firstYearOf, firstMonthOf}
 use Rattle.slots.specs.declared.Seen.{Seen}
 use Rattle.slots.specs.declared.Seen.the-variants.{Nothing, Value}
@@ -18,7 +17,7 @@ amount-most least most (Value x) i = i .1
 
 module _ (book : List ℕ) (v : Valid book) where
   pub first-year-most : amountOf (firstYearOf book) ≤ 2089
-  first-year-most = amount-most 2000 2089 (firstYearOf book) (year-in book v firstYear (lit≤ tt) tt)
+  first-year-most = amount-most 2000 2089 (firstYearOf book) (year-in book v 0 (lit≤ tt) tt)
 
   pub first-month-most : amountOf (firstMonthOf book) ≤ 12
-  first-month-most = amount-most 1 12 (firstMonthOf book) (year-in book v firstMonth (lit≤ tt) tt)
+  first-month-most = amount-most 1 12 (firstMonthOf book) (year-in book v 1 (lit≤ tt) tt)

@@ -7,7 +7,6 @@ use lib.Dec.{lit≤}
 use Rattle.keys.specs.Table.{lines, categories}
 use Rattle.book.specs.Valid.{Valid}
 use Rattle.slots.proofs.Ranges.{In, line-in, numbers-in}
-use Rattle.slots.specs.Entries.{category}
 use Rattle.slots.specs.Reads.{categoryOf, lineOf}
 use Rattle.slots.specs.declared.Line.{Line}
 use Rattle.slots.specs.declared.Seen.{Seen}
@@ -29,13 +28,13 @@ pub record ShareRanged (line : Line) : Type 0 where
 
 module _ (book : List ℕ) (v : Valid book) where
   pub category-most : (line x : ℕ) → line ≤ lines → categoryOf book line ≡ Value x → x ≤ categories
-  category-most line x h e = value-most 1 categories (categoryOf book line) x e (line-in book v line h category (lit≤ tt) tt)
+  category-most line x h e = value-most 1 categories (categoryOf book line) x e (line-in book v line h 2 (lit≤ tt) tt)
 
   pub category-least : (line x : ℕ) → line ≤ lines → categoryOf book line ≡ Value x → 1 ≤ x
-  category-least line x h e = value-least 1 categories (categoryOf book line) x e (line-in book v line h category (lit≤ tt) tt)
+  category-least line x h e = value-least 1 categories (categoryOf book line) x e (line-in book v line h 2 (lit≤ tt) tt)
 
   pub category-amount : (line : ℕ) → line ≤ lines → amountOf (categoryOf book line) ≤ categories
-  category-amount line h = amount-most 1 categories (categoryOf book line) (line-in book v line h category (lit≤ tt) tt)
+  category-amount line h = amount-most 1 categories (categoryOf book line) (line-in book v line h 2 (lit≤ tt) tt)
 
   pub share-ranged : (line : ℕ) → line ≤ lines → ShareRanged (lineOf book line)
   share-ranged line h =

@@ -16,8 +16,7 @@ use Rattle.book.specs.Book.{bookBytes, recordAt, free, answerOf, bookAfter}
 use Rattle.book.specs.declared.Posted.the-variants.{Taken}
 use Rattle.book.proofs.Free.{free-same}
 use Rattle.book.proofs.Letters.{held-filled}
-use Rattle.slots.specs.Entries.{firstYear, share, head, temperature, projectMethane, destroyed}
-use Rattle.slots.specs.Field.{placeOf, bytesOf, fieldAt, filledAt, seenAt, numberOf, seenOf, filledOf}
+use Rattle.slots.specs.Field.{placeOf, bytesOf, seenAt, numberOf, seenOf, filledOf}
 use Rattle.slots.specs.Reads.{firstYearOf, headOf, temperatureOf, drainedOf, projectMethaneOf, destroyedOf}
 use Rattle.slots.specs.declared.Seen.the-variants.{Nothing, Value}
 use Rattle.slots.specs.declared.Warmth.the-variants.{Unknown, Tenths}
@@ -26,7 +25,7 @@ use Rattle.postings.proofs.Own.{taken-fills}
 
 -- a read of a slot goes by what stands in it alone
 pub read-same : (a b : List ℕ) (k at wide : ℕ) → at + wide ≤ recordBytes → recordAt a k ≡ recordAt b k → seenAt a k at wide ≡ seenAt b k at wide
-unfolding seenAt filledAt fieldAt
+unfolding seenAt
 read-same a b k at wide h e =
     let n = sym (number-slot a k at wide h) ∙ ap (λ (r : List ℕ). numberAt r at wide) e ∙ number-slot b k at wide h in
     ap (λ (f : Bool). cond (not f) (Value (numberAt a (k * recordBytes + at) wide)) Nothing) (free-same a b k e)
@@ -34,7 +33,7 @@ read-same a b k at wide h e =
 
 -- a slot that holds a record is read as that record's field
 holds-read : (book r : List ℕ) (k j at wide : ℕ) → at + wide ≤ recordBytes → judged r ≡ Fill j → recordAt book k ≡ r → seenAt book k at wide ≡ Value (numberAt r at wide)
-unfolding seenAt filledAt fieldAt
+unfolding seenAt
 holds-read book r k j at wide h e held =
     ap (λ (f : Bool). cond (not f) (Value (numberAt book (k * recordBytes + at) wide)) Nothing) (held-filled book k j (ap judged held ∙ e))
     ∙ ap Value (sym (number-slot book k at wide h) ∙ ap (λ (s : List ℕ). numberAt s at wide) held)
@@ -75,27 +74,26 @@ module _ (book r : List ℕ) (size : length book ≡ bookBytes) (t : answerOf bo
 
   pub posted-year : rowOf r ≡ yr → firstYearOf (bookAfter book r) ≡ Value (numberAt r 2 2)
   unfolding keyOf keyIn
-  posted-year e = as-row yr e firstYear (lit≤ tt)
+  posted-year e = as-row yr e 0 (lit≤ tt)
 
-  pub posted-share : rowOf r ≡ ln → seenOf (bookAfter book r) ln (getD r 2 0 ∷ []) share ≡ Value (numberAt r 10 2)
+  pub posted-share : rowOf r ≡ ln → seenOf (bookAfter book r) ln (getD r 2 0 ∷ []) 6 ≡ Value (numberAt r 10 2)
   unfolding keyOf keyIn
-  posted-share e = as-row ln e share (lit≤ tt)
+  posted-share e = as-row ln e 6 (lit≤ tt)
 
   pub posted-head : rowOf r ≡ hd → headOf (bookAfter book r) (getD r 2 0) (getD r 3 0) ≡ Value (numberAt r 4 4)
   unfolding keyOf keyIn
-  posted-head e = as-row hd e head (lit≤ tt)
+  posted-head e = as-row hd e 2 (lit≤ tt)
 
   pub posted-methane : rowOf r ≡ pe → projectMethaneOf (bookAfter book r) (getD r 2 0) ≡ Value (numberAt r 4 4)
   unfolding keyOf keyIn
-  posted-methane e = as-row pe e projectMethane (lit≤ tt)
+  posted-methane e = as-row pe e 2 (lit≤ tt)
 
   pub posted-destroyed : rowOf r ≡ mt → destroyedOf (bookAfter book r) (getD r 2 0) (getD r 3 0) ≡ Value (numberAt r 4 8)
   unfolding keyOf keyIn
-  posted-destroyed e = as-row mt e destroyed (lit≤ tt)
+  posted-destroyed e = as-row mt e 2 (lit≤ tt)
 
   -- a temperature and a drain mark, which are not read as unsigned fields
   filled-there : filledOf (bookAfter book r) (rowOf r) (keyOf (rowOf r) r) ≡ true
-  unfolding filledAt
   filled-there =
       let s = taken-fills book r size t in
       let f = s .fills in
@@ -109,4 +107,4 @@ module _ (book r : List ℕ) (size : length book ≡ bookBytes) (t : answerOf bo
 
   pub posted-temperature : rowOf r ≡ tp → temperatureOf (bookAfter book r) (getD r 2 0) ≡ Tenths (signedOf (numberAt r 4 2))
   unfolding keyOf keyIn seenAt
-  posted-temperature e = warm (filledOf (bookAfter book r) tp (getD r 2 0 ∷ [])) (numberOf (bookAfter book r) tp (getD r 2 0 ∷ []) temperature) (numberAt r 4 2) (as-row tp e temperature (lit≤ tt))
+  posted-temperature e = warm (filledOf (bookAfter book r) tp (getD r 2 0 ∷ [])) (numberOf (bookAfter book r) tp (getD r 2 0 ∷ []) 2) (numberAt r 4 2) (as-row tp e 2 (lit≤ tt))

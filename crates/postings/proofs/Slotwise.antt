@@ -3,7 +3,7 @@
 use mathlib.Core.Path.{_≡_, refl, sym, ap, _∙_}
 use mathlib.Core.Bool.{Bool, true, false, cond, not, _&&_}
 use mathlib.Core.List.{List, [], _∷_}
-use Prim.Native.Nat.{ℕ, _+_, _≤_, _<_}
+use Prim.Native.Nat.{ℕ, _+_, _*_, _≤_, _<_}
 use borrow.Author.Tests.{eqb-true, eqb-false}
 use lib.Dec.{eqb}
 use lib.ListN.{getD}
@@ -19,7 +19,7 @@ use Rattle.book.specs.Valid.{Valid}
 use Rattle.book.proofs.Filling.{slot-same, slot-other}
 use Rattle.book.proofs.Free.{first-byte}
 use Rattle.book.proofs.Kept.{kept}
-use Rattle.slots.specs.Field.{fieldAt, filledAt, seenAt}
+use Rattle.slots.specs.Field.{seenAt}
 use Rattle.slots.specs.declared.Seen.the-variants.{Nothing, Value}
 use Rattle.slots.proofs.Within.{number-slot}
 use Rattle.postings.specs.Each.{bookEach}
@@ -80,17 +80,15 @@ slotwise book (r ∷ rs) v k h = slotwise (bookAfter book r) rs (kept book r v) 
 
 -- what is read of a slot, by what stands in it: whether it is filled, a number, and what is seen
 module _ (book : List ℕ) (k : ℕ) {held : List ℕ} (stands : recordAt book k ≡ held) where
-  pub filled-held : filledAt book k ≡ not (bare held)
-  unfolding filledAt
+  pub filled-held : not (free book k) ≡ not (bare held)
   filled-held = ap not (free-bare book k ∙ ap bare stands)
 
   module _ (at wide : ℕ) (inside : at + wide ≤ recordBytes) where
-    pub number-held : fieldAt book k at wide ≡ numberAt held at wide
-    unfolding fieldAt
+    pub number-held : numberAt book (k * recordBytes + at) wide ≡ numberAt held at wide
     number-held = sym (number-slot book k at wide inside) ∙ ap (λ (r : List ℕ). numberAt r at wide) stands
 
     pub seen-held : seenAt book k at wide ≡ cond (not (bare held)) (Value (numberAt held at wide)) Nothing
     unfolding seenAt
     seen-held =
-        ap (λ (b : Bool). cond b (Value (fieldAt book k at wide)) Nothing) filled-held
+        ap (λ (b : Bool). cond b (Value (numberAt book (k * recordBytes + at) wide)) Nothing) filled-held
         ∙ ap (λ (x : ℕ). cond (not (bare held)) (Value x) Nothing) number-held

@@ -8,7 +8,7 @@ use lib.Ieee.{Float, nan}
 use lib.ListN.{replicate}
 use Rattle.units.specs.Grams.{methane}
 use Rattle.keys.specs.Number.{numberAt}
-use Rattle.keys.specs.Slot.{highestOf, count, index, total, firstSlot, slotOf}
+use Rattle.keys.specs.Slot.{count, index, total, slotOf}
 use Rattle.records.specs.Record.{inRange, nonzeroAt, nonzeroIn, outsideIn, keyIn, rowIn, rowOf, keyOf, verdict, judgedAs, judged}
 use Rattle.records.specs.declared.Judged.the-variants.{Fill}
 use Rattle.records.proofs.Taken.{taken}
@@ -31,7 +31,7 @@ use Rattle.promises.proofs.Promise.{Answered}
 use Rattle.promises.proofs.Records.{yearRecord}
 
 year-judged : judged yearRecord ≡ Fill 0
-unfolding judged judgedAs verdict rowOf rowIn keyOf keyIn nonzeroIn nonzeroAt outsideIn inRange numberAt slotOf firstSlot total index highestOf count
+unfolding judged judgedAs verdict rowOf rowIn keyOf keyIn nonzeroIn nonzeroAt outsideIn inRange numberAt slotOf total index count
 year-judged = refl
 
 pub year-taken : Book.answerOf emptyBook yearRecord ≡ Taken

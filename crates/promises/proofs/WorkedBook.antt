@@ -12,7 +12,7 @@ use Rattle.laws.proofs.Table.{left, right, each, at}
 use Rattle.calendar.specs.Days.{monthsInYear}
 use Rattle.keys.specs.Table.{lines, yr, ln, hd, tp, dr, pe, mt}
 use Rattle.keys.specs.Number.{recordBytes, numberAt, signedOf}
-use Rattle.keys.specs.Slot.{highestOf, count, index, total, slots, firstSlot, slotOf}
+use Rattle.keys.specs.Slot.{count, index, total, slots, slotOf}
 use Rattle.records.specs.Record.{inRange, nonzeroAt, nonzeroIn, outsideIn, keyIn, rowIn, rowOf, keyOf, verdict, judgedAs, judged}
 use Rattle.book.specs.Book.{recordAt, emptyBook}
 use Rattle.book.specs.Valid.{Valid}
@@ -87,7 +87,7 @@ module _ (destroyed : Bool) where
       (stands (slot (suc (i - 1))) (λ b. r b (suc (i - 1))) (at (λ j. both (holds (slot (suc j)) (λ b. r b (suc j)))) n t (i - 1) (omega arith)))
 
   pub made-stands : Stands (made destroyed) destroyed
-  unfolding made holds both alike each heldAfter heldBy judged judgedAs verdict rowOf rowIn keyOf keyIn nonzeroIn nonzeroAt outsideIn inRange signedOf numberAt slotOf firstSlot total index highestOf count slots
+  unfolding made holds both alike each heldAfter heldBy judged judgedAs verdict rowOf rowIn keyOf keyIn nonzeroIn nonzeroAt outsideIn inRange signedOf numberAt slotOf total index count slots
   made-stands =
       record {
         valid = kept-each emptyBook (records destroyed) empty-valid;

@@ -16,7 +16,6 @@ use Rattle.keys.specs.Table.{lines, categories, yr, ln, hd, tp, dr, pe, mt}
 use Rattle.keys.specs.Number.{numberAt, signedOf}
 use Rattle.keys.specs.Slot.{slotOf}
 use Rattle.book.specs.Book.{recordAt}
-use Rattle.slots.specs.Entries.{temperature}
 use Rattle.slots.specs.Field.{numberOf}
 use Rattle.slots.specs.Reads.{firstYearOf, firstMonthOf, systemOf, categoryOf, lineOf, headOf, temperatureOf, drainedOf, projectMethaneOf, baselineCo2Of, projectCo2Of, destroyedOf}
 use Rattle.slots.specs.declared.Line.{Line}
@@ -93,7 +92,7 @@ module _ (book : List ℕ) (destroyed : Bool) (s : Stands book destroyed) where
     unfolding numberAt signedOf
     temperature-is =
         let stands = s .temperature m low high in
-        ap (λ (b : Bool). cond b (Tenths (signedOf (numberOf book tp (m ∷ []) temperature))) Unknown) (filled-held book (slotOf tp (m ∷ [])) stands)
+        ap (λ (b : Bool). cond b (Tenths (signedOf (numberOf book tp (m ∷ []) 2))) Unknown) (filled-held book (slotOf tp (m ∷ [])) stands)
         ∙ ap (λ (n : ℕ). Tenths (signedOf n)) (number-held book (slotOf tp (m ∷ [])) stands 4 2 (lit≤ tt))
 
     pub drained-is : drainedOf book 1 m ≡ false

@@ -7,22 +7,20 @@ use native.Mathlib.Omega.{arith}
 use lib.Dec.{T, ltb, ltb→lt}
 use lib.ListN.{length}
 use Rattle.laws.proofs.Table.{left, right, each, at}
-use Rattle.keys.specs.Table.{from, Entry, zeros, key, field, table, entriesOf}
+use Rattle.keys.specs.Table.{Entry, zeros, field, table, entriesOf}
 use Rattle.keys.specs.Number.{afterMark, numberAt}
 use Rattle.records.specs.Record.{nowhere, inRange, outsideIn}
 
--- each key byte and each field, from an offset on, is in its range
+-- each field, from an offset on, is in its range
 abbrev pub Ranged : ℕ → List Entry → List ℕ → Type 0
 Ranged at [] r = Unit {0}
 Ranged at (zeros n ∷ es) r = Ranged (at + n) es r
-Ranged at (key high ∷ es) r = (inRange (from 1 high) r (numberAt r at 1) ≡ true) × Ranged (at + 1) es r
 Ranged at (field wide range ∷ es) r = (inRange range r (numberAt r at wide) ≡ true) × Ranged (at + wide) es r
 
--- each key byte and each field, from an offset on, starts inside the record
+-- each field, from an offset on, starts inside the record
 inside : ℕ → List Entry → Bool
 inside at [] = true
 inside at (zeros n ∷ es) = inside (at + n) es
-inside at (key high ∷ es) = ltb at nowhere && inside (at + 1) es
 inside at (field wide range ∷ es) = ltb at nowhere && inside (at + wide) es
 
 spared : (b : Bool) (later at : ℕ) → T (ltb at nowhere) → nowhere ≤ cond b later at → (b ≡ true) × (nowhere ≤ later)
@@ -33,9 +31,6 @@ ranged : (at : ℕ) (es : List Entry) (r : List ℕ) → T (inside at es) → no
 unfolding inside outsideIn
 ranged at [] r t h = tt
 ranged at (zeros n ∷ es) r t h = ranged (at + n) es r t h
-ranged at (key high ∷ es) r t h =
-    let s = spared (inRange (from 1 high) r (numberAt r at 1)) (outsideIn (at + 1) es r) at (left (ltb at nowhere) (inside (at + 1) es) t) h in
-    (s .0, ranged (at + 1) es r (right (ltb at nowhere) (inside (at + 1) es) t) (s .1))
 ranged at (field wide range ∷ es) r t h =
     let s = spared (inRange range r (numberAt r at wide)) (outsideIn (at + wide) es r) at (left (ltb at nowhere) (inside (at + wide) es) t) h in
     (s .0, ranged (at + wide) es r (right (ltb at nowhere) (inside (at + wide) es) t) (s .1))

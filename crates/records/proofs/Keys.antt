@@ -2,15 +2,15 @@
 -- Assumes nothing.
 use mathlib.Core.Path.{_≡_, refl, sym, ap, _∙_, subst}
 use mathlib.Core.Bool.{Bool, true, false, _&&_}
-use mathlib.Core.List.{List, [], _∷_}
+use mathlib.Core.List.{List, [], _∷_, _++_, map}
 use Prim.Native.Nat.{ℕ, _+_, _*_, _-_, _≤_, _<_}
 use native.Mathlib.Omega.{arith}
 use borrow.Author.Tests.{leb-true}
 use lib.Dec.{leb}
 use lib.ListN.{length, getD}
-use Rattle.keys.specs.Table.{from, Entry, zeros, key, field, table, entriesOf}
+use Rattle.keys.specs.Table.{from, Entry, u8, noRow, table, highestOf, entriesOf}
 use Rattle.keys.specs.Number.{afterMark, numberAt}
-use Rattle.keys.specs.Slot.{highestOf, count, index, slots, slotOf}
+use Rattle.keys.specs.Slot.{count, index, slots, slotOf}
 use Rattle.keys.proofs.Slots.{digit-same, Low, index-below, Among, among, among-all, one-row}
 use Rattle.records.specs.Record.{inRange, keyIn, rowOf, keyOf}
 use Rattle.records.proofs.Taken.{Taken}
@@ -33,29 +33,31 @@ byte r at high e =
     let b = within 1 high r (getD r at 0 + 256 * 0) e in
     (omega arith, omega arith)
 
-low : (at : ℕ) (es : List Entry) (r : List ℕ) → Ranged at es r → Low (highestOf es) (keyIn at es r)
-unfolding highestOf keyIn
-low at [] r g = tt
-low at (zeros n ∷ es) r g = low (at + n) es r g
-low at (key high ∷ es) r g = let b = byte r at high (g .0) in (omega arith, low (at + 1) es r (g .1))
-low at (field wide range ∷ es) r g = low (at + wide) es r (g .1)
+-- the bytes of a key whose entries, with some after them, are in their ranges
+module _ (after : List Entry) where
+  low : (at : ℕ) (highest r : List ℕ) → Ranged at (map (u8 1) highest ++ after) r → Low highest (keyIn at highest r)
+  unfolding keyIn
+  low at [] r g = tt
+  low at (high ∷ highest) r g = let b = byte r at high (g .0) in (omega arith, low (at + 1) highest r (g .1))
 
-tells : (at : ℕ) (es : List Entry) (r s : List ℕ) → Ranged at es r → Ranged at es s
-    → index (highestOf es) (keyIn at es r) ≡ index (highestOf es) (keyIn at es s) → keyIn at es r ≡ keyIn at es s
-unfolding highestOf keyIn index
-tells at [] r s g h e = refl
-tells at (zeros n ∷ es) r s g h e = tells (at + n) es r s g h e
-tells at (key high ∷ es) r s g h e =
-    let b = byte r at high (g .0) in
-    let c = byte s at high (h .0) in
-    let i = index-below (highestOf es) (keyIn (at + 1) es r) (low (at + 1) es r (g .1)) in
-    let j = index-below (highestOf es) (keyIn (at + 1) es s) (low (at + 1) es s (h .1)) in
-    let d : getD r at 0 - 1 ≡ getD s at 0 - 1 = digit-same (getD r at 0 - 1) (getD s at 0 - 1) (count (highestOf es)) _ _ i j e in
-    let a : getD r at 0 ≡ getD s at 0 = omega arith in
-    let f : index (highestOf es) (keyIn (at + 1) es r) ≡ index (highestOf es) (keyIn (at + 1) es s) = omega (arith, e, ap (λ (x : ℕ). x * count (highestOf es)) d) in
-    let k = tells (at + 1) es r s (g .1) (h .1) f in
-    cc
-tells at (field wide range ∷ es) r s g h e = tells (at + wide) es r s (g .1) (h .1) e
+  tells :
+      (at : ℕ) (highest r s : List ℕ) → Ranged at (map (u8 1) highest ++ after) r → Ranged at (map (u8 1) highest ++ after) s →
+      index highest (keyIn at highest r) ≡ index highest (keyIn at highest s) → keyIn at highest r ≡ keyIn at highest s
+  unfolding keyIn index
+  tells at [] r s g h e = refl
+  tells at (high ∷ highest) r s g h e =
+      let b = byte r at high (g .0) in
+      let c = byte s at high (h .0) in
+      let i = index-below highest (keyIn (at + 1) highest r) (low (at + 1) highest r (g .1)) in
+      let j = index-below highest (keyIn (at + 1) highest s) (low (at + 1) highest s (h .1)) in
+      let d : getD r at 0 - 1 ≡ getD s at 0 - 1 = digit-same (getD r at 0 - 1) (getD s at 0 - 1) (count highest) _ _ i j e in
+      let a : getD r at 0 ≡ getD s at 0 = omega arith in
+      let f : index highest (keyIn (at + 1) highest r) ≡ index highest (keyIn (at + 1) highest s) = omega (arith, e, ap (λ (x : ℕ). x * count highest) d) in
+      let k = tells (at + 1) highest r s (g .1) (h .1) f in
+      cc
+
+abbrev afterKey : ℕ → List Entry
+afterKey row = getD table row noRow .after
 
 -- of a record that is taken
 module _ (r : List ℕ) (k : ℕ) (t : Taken r k) where
@@ -64,7 +66,7 @@ module _ (r : List ℕ) (k : ℕ) (t : Taken r k) where
 
   pub there : Among (rowOf r) k
   unfolding keyOf
-  there = subst (Among (rowOf r)) (t .slot) (among (rowOf r) (t .row) (keyOf (rowOf r) r) (low afterMark (entriesOf (rowOf r)) r fields))
+  there = subst (Among (rowOf r)) (t .slot) (among (rowOf r) (t .row) (keyOf (rowOf r) r) (low (afterKey (rowOf r)) afterMark (highestOf (rowOf r)) r fields))
 
   pub slot-below : k < slots
   slot-below = among-all (rowOf r) k (t .row) there
@@ -76,7 +78,7 @@ same-row r s k t u = one-row (rowOf r) (rowOf s) k (there r k t) (there s k u)
 at-row : (row : ℕ) → row < length table → (r s : List ℕ) → Ranged afterMark (entriesOf row) r → Ranged afterMark (entriesOf row) s
     → slotOf row (keyOf row r) ≡ slotOf row (keyOf row s) → keyOf row r ≡ keyOf row s
 unfolding slotOf keyOf
-at-row row h r s g f e = tells afterMark (entriesOf row) r s g f (omega arith)
+at-row row h r s g f e = tells (afterKey row) afterMark (highestOf row) r s g f (omega arith)
 
 pub same-key : (r s : List ℕ) (k : ℕ) → Taken r k → Taken s k → keyOf (rowOf r) r ≡ keyOf (rowOf s) s
 same-key r s k t u =

@@ -7,7 +7,7 @@ use lib.Dec.{eqb, ltb, leb}
 use lib.IntN.{pos, negℤ}
 use lib.ListN.{length, getD}
 use lib.Signed.{leZ}
-use Rattle.keys.specs.Table.{Range, from, unless, signed, Entry, zeros, key, field, Row, table, entriesOf}
+use Rattle.keys.specs.Table.{Range, from, unless, signed, Entry, zeros, field, Row, table, highestOf, entriesOf}
 use Rattle.keys.specs.Number.{recordBytes, afterMark, numberAt, signedOf}
 use Rattle.keys.specs.Slot.{slotOf}
 use Rattle.records.specs.declared.Judged.{Judged}
@@ -32,22 +32,18 @@ nonzeroAt r at (suc n) later = cond (eqb (getD r at 0) 0) (nonzeroAt r (at + 1) 
 unfoldable pub nonzeroIn : ℕ → List Entry → List ℕ → ℕ
 nonzeroIn at [] r = nowhere
 nonzeroIn at (zeros n ∷ es) r = nonzeroAt r at n (nonzeroIn (at + n) es r)
-nonzeroIn at (key high ∷ es) r = nonzeroIn (at + 1) es r
 nonzeroIn at (field wide range ∷ es) r = nonzeroIn (at + wide) es r
 
 -- the offset of the first field outside its range, among the entries from an offset on
 unfoldable pub outsideIn : ℕ → List Entry → List ℕ → ℕ
 outsideIn at [] r = nowhere
 outsideIn at (zeros n ∷ es) r = outsideIn (at + n) es r
-outsideIn at (key high ∷ es) r = cond (inRange (from 1 high) r (numberAt r at 1)) (outsideIn (at + 1) es r) at
 outsideIn at (field wide range ∷ es) r = cond (inRange range r (numberAt r at wide)) (outsideIn (at + wide) es r) at
 
--- the bytes of the key, among the entries from an offset on
-unfoldable pub keyIn : ℕ → List Entry → List ℕ → List ℕ
+-- the bytes of a key from an offset on, one for each highest value
+unfoldable pub keyIn : ℕ → List ℕ → List ℕ → List ℕ
 keyIn at [] r = []
-keyIn at (zeros n ∷ es) r = keyIn (at + n) es r
-keyIn at (key high ∷ es) r = getD r at 0 ∷ keyIn (at + 1) es r
-keyIn at (field wide range ∷ es) r = keyIn (at + wide) es r
+keyIn at (high ∷ highest) r = getD r at 0 ∷ keyIn (at + 1) highest r
 
 -- the row with these letters, or how many rows there are where none has them; the row of a record, and its key by a row
 unfoldable pub rowIn : ℕ → List Row → ℕ
@@ -58,7 +54,7 @@ unfoldable pub rowOf : List ℕ → ℕ
 rowOf r = rowIn (numberAt r 0 afterMark) table
 
 unfoldable pub keyOf : ℕ → List ℕ → List ℕ
-keyOf row r = keyIn afterMark (entriesOf row) r
+keyOf row r = keyIn afterMark (highestOf row) r
 
 -- a zero byte that is not 0 is refusal 3 at its offset; else a field outside its range is refusal 4 at its offset; else the record fills its slot
 unfoldable pub verdict : ℕ → ℕ → ℕ → Judged

@@ -2,9 +2,9 @@
 use mathlib.Core.List.{List}
 use Prim.Native.Nat.{ℕ, _<_}
 use lib.ListN.{length}
-use Rattle.keys.specs.Table.{table, entriesOf}
-use Rattle.keys.specs.Slot.{highestOf, slots, slotOf}
+use Rattle.keys.specs.Table.{table, highestOf}
+use Rattle.keys.specs.Slot.{slots, slotOf}
 use Rattle.keys.proofs.Slots.{Low, among, among-all}
 
-pub inside : (row : ℕ) → row < length table → (bytes : List ℕ) → Low (highestOf (entriesOf row)) bytes → slotOf row bytes < slots
+pub inside : (row : ℕ) → row < length table → (bytes : List ℕ) → Low (highestOf row) bytes → slotOf row bytes < slots
 inside row h bytes l = among-all row (slotOf row bytes) h (among row h bytes l)

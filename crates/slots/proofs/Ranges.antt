@@ -8,15 +8,14 @@ use lib.Dec.{T, eqb, lit≤}
 use lib.IntN.{ℤ, pos, negℤ}
 use lib.ListN.{length, getD}
 use lib.Signed.{leZ}
-use Rattle.keys.specs.Table.{from, unless, signed, Entry, zeros, key, field, lines, categories, months, devices, table, entriesOf, yr, ln, hd, tp, pe, mt}
+use Rattle.keys.specs.Table.{from, unless, signed, Entry, zeros, field, lines, categories, months, devices, table, highestOf, entriesOf, yr, ln, hd, tp, pe, mt}
 use Rattle.keys.specs.Number.{signedOf}
-use Rattle.keys.specs.Slot.{highestOf, slotOf}
+use Rattle.keys.specs.Slot.{slotOf}
 use Rattle.keys.proofs.Slots.{Low}
 use Rattle.records.specs.Record.{inRange}
 use Rattle.records.proofs.Keys.{within}
 use Rattle.book.specs.Book.{recordAt}
 use Rattle.book.specs.Valid.{Valid}
-use Rattle.slots.specs.Entries.{system, category, tableSolids, mass, share, b0, conversionFactor, temperature}
 use Rattle.slots.specs.Field.{seenAt, numberOf, seenOf, filledOf}
 use Rattle.slots.specs.Reads.{lineOf, temperatureOf}
 use Rattle.slots.specs.declared.Line.{Line}
@@ -29,21 +28,18 @@ use Rattle.slots.proofs.Within.{filled-ranged, empty-zero}
 -- the lowest and the highest value of entry n of a row, where it is an unsigned field
 abbrev pub lowestOf : Entry → ℕ
 lowestOf (zeros n) = 0
-lowestOf (key high) = 1
 lowestOf (field wide (from low high)) = low
 lowestOf (field wide (unless by high)) = 0
 lowestOf (field wide (signed below above)) = 0
 
 abbrev pub topOf : Entry → ℕ
 topOf (zeros n) = 0
-topOf (key high) = high
 topOf (field wide (from low high)) = high
 topOf (field wide (unless by high)) = high
 topOf (field wide (signed below above)) = above
 
 abbrev pub unsigned : Entry → Bool
 unsigned (zeros n) = false
-unsigned (key high) = false
 unsigned (field wide (from low high)) = true
 unsigned (field wide (unless by high)) = true
 unsigned (field wide (signed below above)) = false
@@ -80,12 +76,11 @@ small : (b : Bool) {x least most : ℕ} → (b ≡ true → (least ≤ x) × (x 
 small true f g = f refl .1
 small false f g = let z = g refl in omega arith
 
-module _ (book : List ℕ) (v : Valid book) (row : ℕ) (h : row < length table) (bytes : List ℕ) (l : Low (highestOf (entriesOf row)) bytes) (n : ℕ) (m : n < length (entriesOf row)) where
+module _ (book : List ℕ) (v : Valid book) (row : ℕ) (h : row < length table) (bytes : List ℕ) (l : Low (highestOf row) bytes) (n : ℕ) (m : n < length (entriesOf row)) where
   ranged-by :
       (e : Entry) → entryAt row n ≡ e → T (unsigned e) → filledOf book row bytes ≡ true →
       (lowestOf e ≤ numberOf book row bytes n) × (numberOf book row bytes n ≤ topOf e)
   ranged-by (zeros k) e t f = absurd t
-  ranged-by (key top) e t f = absurd t
   ranged-by (field wide (from least most)) e t f = within least most (recordAt book (slotOf row bytes)) (numberOf book row bytes n) (filled-ranged book v row h bytes l n m wide (from least most) e f)
   ranged-by (field wide (unless by top)) e t f = (omega arith, narrow (recordAt book (slotOf row bytes)) by top (numberOf book row bytes n) (filled-ranged book v row h bytes l n m wide (unless by top) e f))
   ranged-by (field wide (signed below above)) e t f = absurd t
@@ -114,69 +109,59 @@ both false b e = let z : _≡_ {A = ℕ} 0 1 = cc in let f : ⊥ = omega arith i
 -- mark by mark: what is seen, and the number
 module _ (book : List ℕ) (v : Valid book) where
   pub year-in : (n : ℕ) → n < length (entriesOf yr) → T (unsigned (entryAt yr n)) → In (low yr n) (high yr n) (seenOf book yr [] n)
-  unfolding highestOf
   year-in n = seen-in book v yr (lit≤ tt) [] tt n
 
   pub year-most : (n : ℕ) → n < length (entriesOf yr) → T (unsigned (entryAt yr n)) → numberOf book yr [] n ≤ high yr n
-  unfolding highestOf
   year-most n = most book v yr (lit≤ tt) [] tt n
 
   pub line-in : (line : ℕ) → line ≤ lines → (n : ℕ) → n < length (entriesOf ln) → T (unsigned (entryAt ln n)) → In (low ln n) (high ln n) (seenOf book ln (line ∷ []) n)
-  unfolding highestOf
   line-in line h n = seen-in book v ln (lit≤ tt) (line ∷ []) (omega arith, tt) n
 
   pub line-most : (line : ℕ) → line ≤ lines → (n : ℕ) → n < length (entriesOf ln) → T (unsigned (entryAt ln n)) → numberOf book ln (line ∷ []) n ≤ high ln n
-  unfolding highestOf
   line-most line h n = most book v ln (lit≤ tt) (line ∷ []) (omega arith, tt) n
 
   pub head-in : (category month : ℕ) → category ≤ categories → month ≤ months → (n : ℕ) → n < length (entriesOf hd) → T (unsigned (entryAt hd n)) → In (low hd n) (high hd n) (seenOf book hd (category ∷ month ∷ []) n)
-  unfolding highestOf
   head-in category month h k n = seen-in book v hd (lit≤ tt) (category ∷ month ∷ []) (omega arith, (omega arith, tt)) n
 
   pub head-most : (category month : ℕ) → category ≤ categories → month ≤ months → (n : ℕ) → n < length (entriesOf hd) → T (unsigned (entryAt hd n)) → numberOf book hd (category ∷ month ∷ []) n ≤ high hd n
-  unfolding highestOf
   head-most category month h k n = most book v hd (lit≤ tt) (category ∷ month ∷ []) (omega arith, (omega arith, tt)) n
 
   pub project-in : (month : ℕ) → month ≤ months → (n : ℕ) → n < length (entriesOf pe) → T (unsigned (entryAt pe n)) → In (low pe n) (high pe n) (seenOf book pe (month ∷ []) n)
-  unfolding highestOf
   project-in month h n = seen-in book v pe (lit≤ tt) (month ∷ []) (omega arith, tt) n
 
   pub project-most : (month : ℕ) → month ≤ months → (n : ℕ) → n < length (entriesOf pe) → T (unsigned (entryAt pe n)) → numberOf book pe (month ∷ []) n ≤ high pe n
-  unfolding highestOf
   project-most month h n = most book v pe (lit≤ tt) (month ∷ []) (omega arith, tt) n
 
   pub meter-in : (month device : ℕ) → month ≤ months → device ≤ devices → (n : ℕ) → n < length (entriesOf mt) → T (unsigned (entryAt mt n)) → In (low mt n) (high mt n) (seenOf book mt (month ∷ device ∷ []) n)
-  unfolding highestOf
   meter-in month device h k n = seen-in book v mt (lit≤ tt) (month ∷ device ∷ []) (omega arith, (omega arith, tt)) n
 
   pub meter-most : (month device : ℕ) → month ≤ months → device ≤ devices → (n : ℕ) → n < length (entriesOf mt) → T (unsigned (entryAt mt n)) → numberOf book mt (month ∷ device ∷ []) n ≤ high mt n
-  unfolding highestOf
   meter-most month device h k n = most book v mt (lit≤ tt) (month ∷ device ∷ []) (omega arith, (omega arith, tt)) n
 
   pub record LineIn (x : Line) : Type 0 where
-    pub system : x .system ≤ high ln system
-    pub category : x .category ≤ high ln category
-    pub solids : x .solids ≤ high ln tableSolids
-    pub mass : x .mass ≤ high ln mass
-    pub share : x .share ≤ high ln share
-    pub b0 : x .b0 ≤ high ln b0
-    pub conversion : x .conversion ≤ high ln conversionFactor
+    pub system : x .system ≤ high ln 1
+    pub category : x .category ≤ high ln 2
+    pub solids : x .solids ≤ high ln 4
+    pub mass : x .mass ≤ high ln 5
+    pub share : x .share ≤ high ln 6
+    pub b0 : x .b0 ≤ high ln 7
+    pub conversion : x .conversion ≤ high ln 9
 
   pub numbers-in : (line : ℕ) → line ≤ lines → LineIn (lineOf book line)
   numbers-in line h =
       record {
-        system = line-most line h system (lit≤ tt) tt;
-        category = line-most line h category (lit≤ tt) tt;
-        solids = line-most line h tableSolids (lit≤ tt) tt;
-        mass = line-most line h mass (lit≤ tt) tt;
-        share = line-most line h share (lit≤ tt) tt;
-        b0 = line-most line h b0 (lit≤ tt) tt;
-        conversion = line-most line h conversionFactor (lit≤ tt) tt;
+        system = line-most line h 1 (lit≤ tt) tt;
+        category = line-most line h 2 (lit≤ tt) tt;
+        solids = line-most line h 4 (lit≤ tt) tt;
+        mass = line-most line h 5 (lit≤ tt) tt;
+        share = line-most line h 6 (lit≤ tt) tt;
+        b0 = line-most line h 7 (lit≤ tt) tt;
+        conversion = line-most line h 9 (lit≤ tt) tt;
       }
 
   -- a temperature, in tenths: from minus 500 to 600
   pub temperature-in : (month : ℕ) → month ≤ months → Mild 500 600 (temperatureOf book month)
-  unfolding highestOf inRange
+  unfolding inRange
   temperature-in month h =
-      mild (filledOf book tp (month ∷ [])) (signedOf (numberOf book tp (month ∷ []) temperature)) 500 600
-      (λ f. both _ _ (filled-ranged book v tp (lit≤ tt) (month ∷ []) (omega arith, tt) temperature (lit≤ tt) 2 (signed 500 600) refl f))
+      mild (filledOf book tp (month ∷ [])) (signedOf (numberOf book tp (month ∷ []) 2)) 500 600
+      (λ f. both _ _ (filled-ranged book v tp (lit≤ tt) (month ∷ []) (omega arith, tt) 2 (lit≤ tt) 2 (signed 500 600) refl f))

@@ -3,15 +3,15 @@ use mathlib.Core.Path.{_≡_, refl, sym, ap, _∙_, subst}
 use mathlib.Core.Bool.{Bool, true, false}
 use mathlib.Core.List.{List, [], _∷_}
 use Prim.Native.Nat.{ℕ, zero, suc, _+_, _*_, _≤_, _<_}
-use native.Mathlib.Nat.{le-of-suc-le-suc, not-suc-le-zero}
+use native.Mathlib.Nat.{add-zero, add-assoc, le-of-suc-le-suc, not-suc-le-zero}
 use native.Mathlib.Omega.{arith}
 use borrow.Author.Tests.{not-true, not-false}
 use lib.Dec.{leb, leb→le}
-use lib.ListN.{length, getD, replicate, getD-replicate}
+use lib.ListN.{length, getD, take, drop, replicate, getD-replicate}
 use Rattle.laws.proofs.Table.{each, at}
-use Rattle.keys.specs.Table.{Range, Entry, zeros, key, field, table, entriesOf}
+use Rattle.keys.specs.Table.{Range, Entry, zeros, field, table, highestOf, entriesOf}
 use Rattle.keys.specs.Number.{recordBytes, afterMark, numberAt}
-use Rattle.keys.specs.Slot.{highestOf, slots, slotOf}
+use Rattle.keys.specs.Slot.{slots, slotOf}
 use Rattle.keys.proofs.Slots.{Low, among, among-all, one-row}
 use Rattle.records.specs.Record.{inRange, rowOf}
 use Rattle.records.proofs.Taken.{taken}
@@ -21,7 +21,7 @@ use Rattle.book.specs.Book.{recordAt, free}
 use Rattle.book.specs.Valid.{Valid}
 use Rattle.book.proofs.Filling.{slot-byte}
 use Rattle.book.proofs.Letters.{free-empty, filled-held}
-use Rattle.slots.specs.Field.{wideOf, offsetIn, placeOf, bytesOf, fieldAt, filledAt, numberOf, filledOf}
+use Rattle.slots.specs.Field.{bytesIn, placeOf, bytesOf, numberOf, filledOf}
 
 -- a number of a slot is the same number of the book; and in an empty slot it is 0
 pub number-slot : (book : List ℕ) (k at n : ℕ) → at + n ≤ recordBytes → numberAt (recordAt book k) at n ≡ numberAt book (k * recordBytes + at) n
@@ -53,30 +53,23 @@ inside-record row h n l = leb→le _ _ (at (ends row) (length (entriesOf row)) (
 not-field : {m wide : ℕ} {range : Range} {X : Type 0} → zeros m ≡ field wide range → X
 not-field e = let z : _≡_ {A = ℕ} 0 1 = cc in let f : ⊥ = omega arith in absurd f
 
-key-no-field : {high wide : ℕ} {range : Range} {X : Type 0} → key high ≡ field wide range → X
-key-no-field e = let z : _≡_ {A = ℕ} 0 1 = cc in let f : ⊥ = omega arith in absurd f
-
-same-wide : {w wide : ℕ} {g range : Range} → field w g ≡ field wide range → w ≡ wide
-same-wide e = cc
-
 same-range : {w wide : ℕ} {g range : Range} → field w g ≡ field wide range → g ≡ range
 same-range e = cc
 
 nth :
     (from-at : ℕ) (es : List Entry) (r : List ℕ) (n wide : ℕ) (range : Range) → Ranged from-at es r → n < length es →
-    getD es n (zeros 0) ≡ field wide range → inRange range r (numberAt r (offsetIn from-at es n) wide) ≡ true
+    getD es n (zeros 0) ≡ field wide range → inRange range r (numberAt r (from-at + bytesIn (take n es)) (bytesIn (take 1 (drop n es)))) ≡ true
 nth at [] r n wide range g h e = absurd (not-suc-le-zero h)
 nth at (zeros m ∷ es) r zero wide range g h e = not-field e
-nth at (key high ∷ es) r zero wide range g h e = key-no-field e
 nth at (field w own ∷ es) r zero wide range g h e =
-    subst (λ (k : ℕ). inRange range r (numberAt r at k) ≡ true) (same-wide e)
-    (subst (λ (x : Range). inRange x r (numberAt r at w) ≡ true) (same-range e) (g .0))
-nth at (zeros m ∷ es) r (suc n) wide range g h e = nth (at + m) es r n wide range g (le-of-suc-le-suc h) e
-nth at (key high ∷ es) r (suc n) wide range g h e = nth (at + 1) es r n wide range (g .1) (le-of-suc-le-suc h) e
-nth at (field w own ∷ es) r (suc n) wide range g h e = nth (at + w) es r n wide range (g .1) (le-of-suc-le-suc h) e
+    subst (λ (x : Range). inRange x r (numberAt r (at + 0) (w + 0)) ≡ true) (same-range e) (rw (add-zero at, add-zero w) (g .0))
+nth at (zeros m ∷ es) r (suc n) wide range g h e =
+    rw add-assoc at (nth (at + m) es r n wide range g (le-of-suc-le-suc h) e)
+nth at (field w own ∷ es) r (suc n) wide range g h e =
+    rw add-assoc at (nth (at + w) es r n wide range (g .1) (le-of-suc-le-suc h) e)
 
 -- entry n of a row, in the slot of a key of that row
-module _ (book : List ℕ) (v : Valid book) (row : ℕ) (h : row < length table) (bytes : List ℕ) (low : Low (highestOf (entriesOf row)) bytes) where
+module _ (book : List ℕ) (v : Valid book) (row : ℕ) (h : row < length table) (bytes : List ℕ) (low : Low (highestOf row) bytes) where
   slot : ℕ
   slot = slotOf row bytes
 
@@ -85,7 +78,6 @@ module _ (book : List ℕ) (v : Valid book) (row : ℕ) (h : row < length table)
 
   -- what is filled was judged by this row
   its-fields : filledOf book row bytes ≡ true → Ranged afterMark (entriesOf row) (recordAt book (slotOf row bytes))
-  unfolding filledAt
   its-fields f =
       let e = filled-held book (slotOf row bytes) v below (not-true (free book (slotOf row bytes)) f) in
       let t = taken (recordAt book (slotOf row bytes)) (slotOf row bytes) e in
@@ -94,19 +86,16 @@ module _ (book : List ℕ) (v : Valid book) (row : ℕ) (h : row < length table)
 
   module _ (n : ℕ) (l : n < length (entriesOf row)) where
     pub as-read : numberAt (recordAt book (slotOf row bytes)) (placeOf row n) (bytesOf row n) ≡ numberOf book row bytes n
-    unfolding fieldAt
     as-read = number-slot book (slotOf row bytes) (placeOf row n) (bytesOf row n) (inside-record row h n l)
 
     pub filled-ranged :
         (wide : ℕ) (range : Range) → getD (entriesOf row) n (zeros 0) ≡ field wide range → filledOf book row bytes ≡ true →
         inRange range (recordAt book (slotOf row bytes)) (numberOf book row bytes n) ≡ true
     filled-ranged wide range e f =
-        subst (λ (x : ℕ). inRange range (recordAt book (slotOf row bytes)) x ≡ true)
-        (ap (numberAt (recordAt book (slotOf row bytes)) (placeOf row n)) (sym (ap wideOf e)) ∙ as-read)
+        subst (λ (x : ℕ). inRange range (recordAt book (slotOf row bytes)) x ≡ true) as-read
         (nth afterMark (entriesOf row) (recordAt book (slotOf row bytes)) n wide range (its-fields f) l e)
 
     pub empty-zero : filledOf book row bytes ≡ false → numberOf book row bytes n ≡ 0
-    unfolding filledAt
     empty-zero f =
         let z = free-empty book (slotOf row bytes) v below (not-false (free book (slotOf row bytes)) f) in
         sym as-read ∙ ap (λ (r : List ℕ). numberAt r (placeOf row n) (bytesOf row n)) z ∙ none (placeOf row n) (bytesOf row n) (inside-record row h n l)

@@ -1,49 +1,38 @@
 -- One field of one slot of a book: nothing where the slot was never filled, else its value, which may be 0 (01, "The records").
 -- Assumes nothing.
-use Prim.Native.Nat.{ℕ, zero, suc, _+_, _*_}
+use Prim.Native.Nat.{ℕ, _+_, _*_}
 use mathlib.Core.Bool.{Bool, cond, not}
 use mathlib.Core.List.{List, [], _∷_}
-use lib.ListN.{getD}
-use Rattle.keys.specs.Table.{Entry, zeros, key, field, entriesOf}
+use lib.ListN.{take, drop}
+use Rattle.keys.specs.Table.{Entry, zeros, field, entriesOf}
 use Rattle.keys.specs.Number.{recordBytes, afterMark, numberAt}
 use Rattle.keys.specs.Slot.{slotOf}
 use Rattle.book.specs.Book.{free}
 use Rattle.slots.specs.declared.Seen.{Seen}
 use Rattle.slots.specs.declared.Seen.the-variants.{Nothing, Value}
 
--- the bytes of an entry; the offset of the entry after n others; and both of entry n of a row, counted from 0
-abbrev pub wideOf : Entry → ℕ
-wideOf (zeros n) = n
-wideOf (key high) = 1
-wideOf (field wide range) = wide
-
-abbrev pub offsetIn : ℕ → List Entry → ℕ → ℕ
-offsetIn at es zero = at
-offsetIn at [] (suc n) = at
-offsetIn at (e ∷ es) (suc n) = offsetIn (at + wideOf e) es n
+-- the bytes of some entries; and the offset and the bytes of entry n of a row, counted from 0
+abbrev pub bytesIn : List Entry → ℕ
+bytesIn [] = 0
+bytesIn (zeros n ∷ es) = n + bytesIn es
+bytesIn (field wide range ∷ es) = wide + bytesIn es
 
 abbrev pub placeOf : ℕ → ℕ → ℕ
-placeOf row n = offsetIn afterMark (entriesOf row) n
+placeOf row n = afterMark + bytesIn (take n (entriesOf row))
 
 abbrev pub bytesOf : ℕ → ℕ → ℕ
-bytesOf row n = wideOf (getD (entriesOf row) n (zeros 0))
+bytesOf row n = bytesIn (take 1 (drop n (entriesOf row)))
 
--- the number at an offset of a slot, and what is seen there
-unfoldable pub fieldAt : List ℕ → ℕ → ℕ → ℕ → ℕ
-fieldAt book slot at wide = numberAt book (slot * recordBytes + at) wide
-
-unfoldable pub filledAt : List ℕ → ℕ → Bool
-filledAt book slot = not (free book slot)
-
+-- what is seen at an offset of a slot
 unfoldable pub seenAt : List ℕ → ℕ → ℕ → ℕ → Seen
-seenAt book slot at wide = cond (filledAt book slot) (Value (fieldAt book slot at wide)) Nothing
+seenAt book slot at wide = cond (not (free book slot)) (Value (numberAt book (slot * recordBytes + at) wide)) Nothing
 
--- entry n of a row, in the slot of a key
+-- of the slot of a key of a row: whether it is filled; and of entry n, the number, 0 where it is not filled, and what is seen
+abbrev pub filledOf : List ℕ → ℕ → List ℕ → Bool
+filledOf book row bytes = not (free book (slotOf row bytes))
+
 abbrev pub numberOf : List ℕ → ℕ → List ℕ → ℕ → ℕ
-numberOf book row bytes n = fieldAt book (slotOf row bytes) (placeOf row n) (bytesOf row n)
+numberOf book row bytes n = numberAt book (slotOf row bytes * recordBytes + placeOf row n) (bytesOf row n)
 
 abbrev pub seenOf : List ℕ → ℕ → List ℕ → ℕ → Seen
 seenOf book row bytes n = seenAt book (slotOf row bytes) (placeOf row n) (bytesOf row n)
-
-abbrev pub filledOf : List ℕ → ℕ → List ℕ → Bool
-filledOf book row bytes = filledAt book (slotOf row bytes)

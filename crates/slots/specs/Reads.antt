@@ -1,11 +1,11 @@
 -- What the year reads of a book, mark by mark (01, "The records"). Lines, categories, months and devices count from 1.
+-- The last number of each read says which entry of its row in 01's table it is, counted from 0, the bytes of the key and the zero bytes too.
 -- Assumes nothing.
 use Prim.Native.Nat.{ℕ}
 use mathlib.Core.Bool.{Bool, cond}
 use mathlib.Core.List.{List, [], _∷_}
 use Rattle.keys.specs.Table.{yr, ln, hd, tp, dr, pe, mt}
 use Rattle.keys.specs.Number.{signedOf}
-use Rattle.slots.specs.Entries.{firstYear, firstMonth, system, category, tableSolids, mass, share, b0, conversionFactor, head, temperature, projectMethane, baselineCo2, projectCo2, destroyed}
 use Rattle.slots.specs.Field.{numberOf, seenOf, filledOf}
 use Rattle.slots.specs.declared.Line.{Line}
 use Rattle.slots.specs.declared.Seen.{Seen}
@@ -14,38 +14,38 @@ use Rattle.slots.specs.declared.Warmth.the-variants.{Unknown, Tenths}
 
 -- YR
 abbrev pub firstYearOf : List ℕ → Seen
-firstYearOf book = seenOf book yr [] firstYear
+firstYearOf book = seenOf book yr [] 0
 
 abbrev pub firstMonthOf : List ℕ → Seen
-firstMonthOf book = seenOf book yr [] firstMonth
+firstMonthOf book = seenOf book yr [] 1
 
 -- LN
 abbrev pub systemOf : List ℕ → ℕ → Seen
-systemOf book line = seenOf book ln (line ∷ []) system
+systemOf book line = seenOf book ln (line ∷ []) 1
 
 abbrev pub categoryOf : List ℕ → ℕ → Seen
-categoryOf book line = seenOf book ln (line ∷ []) category
+categoryOf book line = seenOf book ln (line ∷ []) 2
 
 -- all of a line's numbers at once, 0 where no LN stands
 abbrev pub lineOf : List ℕ → ℕ → Line
 lineOf book line =
     record {
-      system = numberOf book ln (line ∷ []) system;
-      category = numberOf book ln (line ∷ []) category;
-      solids = numberOf book ln (line ∷ []) tableSolids;
-      mass = numberOf book ln (line ∷ []) mass;
-      share = numberOf book ln (line ∷ []) share;
-      b0 = numberOf book ln (line ∷ []) b0;
-      conversion = numberOf book ln (line ∷ []) conversionFactor;
+      system = numberOf book ln (line ∷ []) 1;
+      category = numberOf book ln (line ∷ []) 2;
+      solids = numberOf book ln (line ∷ []) 4;
+      mass = numberOf book ln (line ∷ []) 5;
+      share = numberOf book ln (line ∷ []) 6;
+      b0 = numberOf book ln (line ∷ []) 7;
+      conversion = numberOf book ln (line ∷ []) 9;
     }
 
 -- HD
 abbrev pub headOf : List ℕ → ℕ → ℕ → Seen
-headOf book category month = seenOf book hd (category ∷ month ∷ []) head
+headOf book category month = seenOf book hd (category ∷ month ∷ []) 2
 
 -- TP
 abbrev pub temperatureOf : List ℕ → ℕ → Warmth
-temperatureOf book month = cond (filledOf book tp (month ∷ [])) (Tenths (signedOf (numberOf book tp (month ∷ []) temperature))) Unknown
+temperatureOf book month = cond (filledOf book tp (month ∷ [])) (Tenths (signedOf (numberOf book tp (month ∷ []) 2))) Unknown
 
 -- DR
 abbrev pub drainedOf : List ℕ → ℕ → ℕ → Bool
@@ -53,14 +53,14 @@ drainedOf book line month = filledOf book dr (line ∷ month ∷ [])
 
 -- PE
 abbrev pub projectMethaneOf : List ℕ → ℕ → Seen
-projectMethaneOf book month = seenOf book pe (month ∷ []) projectMethane
+projectMethaneOf book month = seenOf book pe (month ∷ []) 2
 
 abbrev pub baselineCo2Of : List ℕ → ℕ → Seen
-baselineCo2Of book month = seenOf book pe (month ∷ []) baselineCo2
+baselineCo2Of book month = seenOf book pe (month ∷ []) 3
 
 abbrev pub projectCo2Of : List ℕ → ℕ → Seen
-projectCo2Of book month = seenOf book pe (month ∷ []) projectCo2
+projectCo2Of book month = seenOf book pe (month ∷ []) 4
 
 -- MT
 abbrev pub destroyedOf : List ℕ → ℕ → ℕ → Seen
-destroyedOf book month device = seenOf book mt (month ∷ device ∷ []) destroyed
+destroyedOf book month device = seenOf book mt (month ∷ device ∷ []) 2

@@ -1,14 +1,16 @@
 // What stands in a book, for the year: each field of each mark.
-use records::Field;
+use records::table;
+use records::table::Field;
 ghost use mathlib.Core.Path.{_≡_};
+ghost use mathlib.Core.Bool.{not};
 ghost use mathlib.Core.List.{[], _∷_};
-ghost use Prim.Native.Nat.{_+_, _≤_, _<_};
+ghost use Prim.Native.Nat.{_+_, _*_, _≤_, _<_};
 ghost use Rattle.keys.specs.Table.{lines, categories, months, devices, yr, ln, tp, pe};
-ghost use Rattle.keys.specs.Number.{recordBytes, signedOf};
+ghost use Rattle.keys.specs.Number.{recordBytes, numberAt, signedOf};
 ghost use Rattle.keys.specs.Slot.{slots, slotOf};
+ghost use Rattle.book.specs.Book.{free};
 ghost use Rattle.book.specs.Valid.{Valid};
-ghost use Rattle.slots.specs.Entries.{temperature};
-ghost use Rattle.slots.specs.Field.{placeOf, bytesOf, fieldAt, filledAt, seenAt};
+ghost use Rattle.slots.specs.Field.{placeOf, bytesOf, seenAt};
 ghost use Rattle.slots.specs.Reads.{firstYearOf, firstMonthOf, systemOf, categoryOf, lineOf, headOf, temperatureOf, drainedOf, projectMethaneOf, baselineCo2Of, projectCo2Of, destroyedOf};
 
 // A field of a slot: nothing where the slot was never filled, and 0 is a value.
@@ -38,28 +40,28 @@ pub fn first_year(book: &[u8]) -> Seen
     requires { ⌜ Valid (now book) ⌝ }
     ensures { λ r. ⌜ r ≡ firstYearOf (now (book .entry)) ⌝ }
 {
-    year_field(book, records::YR_FIRST_YEAR)
+    year_field(book, table::YR_FIRST_YEAR)
 }
 
 pub fn first_month(book: &[u8]) -> Seen
     requires { ⌜ Valid (now book) ⌝ }
     ensures { λ r. ⌜ r ≡ firstMonthOf (now (book .entry)) ⌝ }
 {
-    year_field(book, records::YR_FIRST_MONTH)
+    year_field(book, table::YR_FIRST_MONTH)
 }
 
 pub fn system(book: &[u8], line: usize) -> Seen
     requires { ⌜ (Valid (now book)) × (line ≤ lines) ⌝ }
     ensures { λ r. ⌜ r ≡ systemOf (now (book .entry)) line ⌝ }
 {
-    line_field(book, line, records::LN_SYSTEM)
+    line_field(book, line, table::LN_SYSTEM)
 }
 
 pub fn category(book: &[u8], line: usize) -> Seen
     requires { ⌜ (Valid (now book)) × (line ≤ lines) ⌝ }
     ensures { λ r. ⌜ r ≡ categoryOf (now (book .entry)) line ⌝ }
 {
-    line_field(book, line, records::LN_CATEGORY)
+    line_field(book, line, table::LN_CATEGORY)
 }
 
 // All numbers of a line at once, 0 where no LN stands.
@@ -68,13 +70,13 @@ pub fn line_at(book: &[u8], line: usize) -> Line
     ensures { λ r. ⌜ r ≡ lineOf (now (book .entry)) line ⌝ }
 {
     Line {
-        system: line_number(book, line, records::LN_SYSTEM),
-        category: line_number(book, line, records::LN_CATEGORY),
-        solids: line_number(book, line, records::LN_TABLE_SOLIDS),
-        mass: line_number(book, line, records::LN_MASS),
-        share: line_number(book, line, records::LN_SHARE),
-        b0: line_number(book, line, records::LN_B0),
-        conversion: line_number(book, line, records::LN_CONVERSION_FACTOR),
+        system: line_number(book, line, table::LN_SYSTEM),
+        category: line_number(book, line, table::LN_CATEGORY),
+        solids: line_number(book, line, table::LN_TABLE_SOLIDS),
+        mass: line_number(book, line, table::LN_MASS),
+        share: line_number(book, line, table::LN_SHARE),
+        b0: line_number(book, line, table::LN_B0),
+        conversion: line_number(book, line, table::LN_CONVERSION_FACTOR),
     }
 }
 
@@ -82,7 +84,7 @@ pub fn head(book: &[u8], category: usize, month: usize) -> Seen
     requires { ⌜ (Valid (now book)) × (category ≤ categories) × (month ≤ months) ⌝ }
     ensures { λ r. ⌜ r ≡ headOf (now (book .entry)) category month ⌝ }
 {
-    read(book, keys::head_slot(category, month), records::HD_HEAD)
+    read(book, keys::head_slot(category, month), table::HD_HEAD)
 }
 
 pub fn temperature(book: &[u8], month: usize) -> Warmth
@@ -107,28 +109,28 @@ pub fn project_methane(book: &[u8], month: usize) -> Seen
     requires { ⌜ (Valid (now book)) × (month ≤ months) ⌝ }
     ensures { λ r. ⌜ r ≡ projectMethaneOf (now (book .entry)) month ⌝ }
 {
-    project_field(book, month, records::PE_PROJECT_METHANE)
+    project_field(book, month, table::PE_PROJECT_METHANE)
 }
 
 pub fn baseline_co2(book: &[u8], month: usize) -> Seen
     requires { ⌜ (Valid (now book)) × (month ≤ months) ⌝ }
     ensures { λ r. ⌜ r ≡ baselineCo2Of (now (book .entry)) month ⌝ }
 {
-    project_field(book, month, records::PE_BASELINE_CO2)
+    project_field(book, month, table::PE_BASELINE_CO2)
 }
 
 pub fn project_co2(book: &[u8], month: usize) -> Seen
     requires { ⌜ (Valid (now book)) × (month ≤ months) ⌝ }
     ensures { λ r. ⌜ r ≡ projectCo2Of (now (book .entry)) month ⌝ }
 {
-    project_field(book, month, records::PE_PROJECT_CO2)
+    project_field(book, month, table::PE_PROJECT_CO2)
 }
 
 pub fn destroyed(book: &[u8], month: usize, device: usize) -> Seen
     requires { ⌜ (Valid (now book)) × (month ≤ months) × (device ≤ devices) ⌝ }
     ensures { λ r. ⌜ r ≡ destroyedOf (now (book .entry)) month device ⌝ }
 {
-    read(book, keys::meter_slot(month, device), records::MT_DESTROYED)
+    read(book, keys::meter_slot(month, device), table::MT_DESTROYED)
 }
 
 // One field of the slot of a mark and its key.
@@ -148,7 +150,7 @@ fn line_field(book: &[u8], line: usize, entry: Field) -> Seen
 
 fn line_number(book: &[u8], line: usize, entry: Field) -> u64
     requires { ⌜ (Valid (now book)) × (line ≤ lines) × (entry .0 + entry .1 ≤ recordBytes) × (entry .1 ≤ 8) ⌝ }
-    ensures { λ r. ⌜ r ≡ fieldAt (now (book .entry)) (slotOf ln (line ∷ [])) (entry .0) (entry .1) ⌝ }
+    ensures { λ r. ⌜ r ≡ numberAt (now (book .entry)) (slotOf ln (line ∷ []) * recordBytes + entry .0) (entry .1) ⌝ }
 {
     field(book, keys::line_slot(line), entry)
 }
@@ -173,7 +175,7 @@ fn read(book: &[u8], slot: usize, entry: Field) -> Seen
 
 fn filled(book: &[u8], slot: usize) -> bool
     requires { ⌜ (Valid (now book)) × (slot < slots) ⌝ }
-    ensures { λ r. ⌜ r ≡ filledAt (now (book .entry)) slot ⌝ }
+    ensures { λ r. ⌜ r ≡ not (free (now (book .entry)) slot) ⌝ }
 {
     book[slot * keys::RECORD] != 0
 }
@@ -181,7 +183,7 @@ fn filled(book: &[u8], slot: usize) -> bool
 // The number in a slot, filled or not: 0 where it is empty.
 fn field(book: &[u8], slot: usize, entry: Field) -> u64
     requires { ⌜ (Valid (now book)) × (slot < slots) × (entry .0 + entry .1 ≤ recordBytes) × (entry .1 ≤ 8) ⌝ }
-    ensures { λ r. ⌜ r ≡ fieldAt (now (book .entry)) slot (entry .0) (entry .1) ⌝ }
+    ensures { λ r. ⌜ r ≡ numberAt (now (book .entry)) (slot * recordBytes + entry .0) (entry .1) ⌝ }
 {
     keys::number(book, slot * keys::RECORD + entry.0, entry.1)
 }
@@ -189,11 +191,11 @@ fn field(book: &[u8], slot: usize, entry: Field) -> u64
 // A temperature's slot as a signed number, filled or not: 0 where it is empty.
 fn tenths(book: &[u8], slot: usize) -> i16
     requires { ⌜ (Valid (now book)) × (slot < slots) ⌝ }
-    ensures { λ r. ⌜ r ≡ signedOf (fieldAt (now (book .entry)) slot (placeOf tp temperature) (bytesOf tp temperature)) ⌝ }
+    ensures { λ r. ⌜ r ≡ signedOf (numberAt (now (book .entry)) (slot * recordBytes + placeOf tp 2) (bytesOf tp 2)) ⌝ }
 {
     keys::signed(keys::number(
         book,
-        slot * keys::RECORD + records::TP_TEMPERATURE_AT,
-        records::TP_TEMPERATURE_BYTES,
+        slot * keys::RECORD + table::TP_TEMPERATURE_AT,
+        table::TP_TEMPERATURE_BYTES,
     ))
 }

@@ -4,11 +4,11 @@ use Prim.Native.Nat.{ℕ, _≤_}
 use lib.Dec.{lit≤}
 use lib.ListN.{length, replicate, length-replicate}
 use Rattle.keys.specs.Number.{recordBytes}
-use Rattle.keys.specs.Slot.{highestOf, count, total, slots}
+use Rattle.keys.specs.Slot.{count, total, slots}
 use Rattle.book.specs.Book.{bookBytes}
 
 book-bytes : 104208 ≡ bookBytes
-unfolding slots total count highestOf
+unfolding slots total count
 book-bytes = refl
 
 pub book-size : length (replicate {A = ℕ} 104208 0) ≡ bookBytes

@@ -1,7 +1,7 @@
 -- `keys::drain_slot` meets its contract: the rows before it have as many slots as its first. Assumes nothing.
 use native.Mathlib.Omega.{arith}
 use borrow.Author.Needs.{needs}
-use Rattle.keys.specs.Slot.{highestOf, count, index, total, firstSlot, slotOf}
+use Rattle.keys.specs.Slot.{count, index, total, slotOf}
 use Rattle.keys.proofs.drain_slot.Statement.{statement}
 use Rattle.keys.proofs.drain_slot.Tie as tie
 
@@ -21,7 +21,7 @@ add-result-2 : tie.Need-add-result-2
 add-result-2 c = search needs
 
 returns : tie.Need-returns
-unfolding highestOf count index total firstSlot slotOf
+unfolding count index total slotOf
 returns c = omega arith
 
 pub drain-slot-spec : {M : Type 1} → statement M

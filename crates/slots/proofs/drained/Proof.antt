@@ -1,13 +1,14 @@
 -- `slots::drained` meets its contract: the slot of its key lies inside the book. Assumes nothing.
 use mathlib.Core.Path.{_∙_, ap, subst⁻¹}
+use mathlib.Core.Bool.{not}
 use mathlib.Core.List.{[], _∷_}
 use Prim.Native.Nat.{ℕ, _<_}
 use native.Mathlib.Omega.{arith}
 use borrow.Author.Needs.{needs}
 use lib.Dec.{lit≤}
 use Rattle.keys.specs.Table.{dr}
-use Rattle.keys.specs.Slot.{highestOf, slots}
-use Rattle.slots.specs.Field.{filledAt}
+use Rattle.keys.specs.Slot.{slots}
+use Rattle.book.specs.Book.{free}
 use Rattle.slots.proofs.Inside.{inside}
 use Rattle.slots.proofs.drained.Statement.{statement}
 use Rattle.slots.proofs.drained.Tie as tie
@@ -16,7 +17,6 @@ drain-slot-requires : tie.Need-drain-slot-requires
 drain-slot-requires c κs = search needs
 
 filled-requires : tie.Need-filled-requires
-unfolding highestOf
 filled-requires c κs =
     let s = c .before .before in
     let below = subst⁻¹ (λ (n : ℕ). n < slots) (c .drain-slot .ensures) (inside dr (lit≤ tt) (s .args .line ∷ s .args .month ∷ []) (omega arith, (omega arith, tt))) in
@@ -25,7 +25,7 @@ filled-requires c κs =
 returns : tie.Need-returns
 returns c =
     let s = c .before .before .before in
-    c .filled .ensures ∙ ap (λ (n : ℕ). filledAt (s .args .book .now) n) (c .before .drain-slot .ensures)
+    c .filled .ensures ∙ ap (λ (n : ℕ). not (free (s .args .book .now) n)) (c .before .drain-slot .ensures)
 
 pub drained-spec : {M : Type 1} → statement M
 drained-spec = tie.close (tie.spec drain-slot-requires filled-requires returns)

@@ -1,5 +1,4 @@
 -- `slots::field` meets its contract: it is the number in the book. Assumes nothing.
-use Rattle.slots.specs.Field.{fieldAt}
 use borrow.Author.Needs.{needs}
 use Rattle.slots.proofs.field.Statement.{statement}
 use Rattle.slots.proofs.field.Tie as tie
@@ -14,7 +13,6 @@ number-requires : tie.Need-number-requires
 number-requires c κs = search needs
 
 returns : tie.Need-returns
-unfolding fieldAt
 returns c = c .number .ensures .0
 
 pub field-spec : {M : Type 1} → statement M

@@ -1,7 +1,6 @@
 -- `slots::filled` meets its contract: it is the test of the first byte. Assumes nothing.
 use mathlib.Core.Path.{refl}
 use Rattle.book.specs.Book.{free}
-use Rattle.slots.specs.Field.{filledAt}
 use borrow.Author.Needs.{needs}
 use Rattle.slots.proofs.filled.Statement.{statement}
 use Rattle.slots.proofs.filled.Tie as tie
@@ -13,7 +12,7 @@ shared-slice-read-result : tie.Need-shared-slice-read-result
 shared-slice-read-result c = search needs
 
 returns : tie.Need-returns
-unfolding filledAt free
+unfolding free
 returns c = refl
 
 pub filled-spec : {M : Type 1} → statement M

@@ -1,13 +1,13 @@
 -- `slots::line_number` meets its contract: the slot of its key lies inside the book. Assumes nothing.
 use mathlib.Core.Path.{_∙_, ap, subst⁻¹}
 use mathlib.Core.List.{[], _∷_}
-use Prim.Native.Nat.{ℕ, _<_}
+use Prim.Native.Nat.{ℕ, _+_, _*_, _<_}
 use native.Mathlib.Omega.{arith}
 use borrow.Author.Needs.{needs}
 use lib.Dec.{lit≤}
 use Rattle.keys.specs.Table.{ln}
-use Rattle.keys.specs.Slot.{highestOf, slots}
-use Rattle.slots.specs.Field.{fieldAt}
+use Rattle.keys.specs.Number.{recordBytes, numberAt}
+use Rattle.keys.specs.Slot.{slots}
 use Rattle.slots.proofs.Inside.{inside}
 use Rattle.slots.proofs.line_number.Statement.{statement}
 use Rattle.slots.proofs.line_number.Tie as tie
@@ -16,7 +16,6 @@ line-slot-requires : tie.Need-line-slot-requires
 line-slot-requires c κs = search needs
 
 field-requires : tie.Need-field-requires
-unfolding highestOf
 field-requires c κs =
     let s = c .before .before in
     let below = subst⁻¹ (λ (n : ℕ). n < slots) (c .line-slot .ensures) (inside ln (lit≤ tt) (s .args .line ∷ []) (omega arith, tt)) in
@@ -25,7 +24,7 @@ field-requires c κs =
 returns : tie.Need-returns
 returns c =
     let s = c .before .before .before in
-    c .field .ensures ∙ ap (λ (n : ℕ). fieldAt (s .args .book .now) n (s .args .entry .0) (s .args .entry .1)) (c .before .line-slot .ensures)
+    c .field .ensures ∙ ap (λ (n : ℕ). numberAt (s .args .book .now) (n * recordBytes + s .args .entry .0) (s .args .entry .1)) (c .before .line-slot .ensures)
 
 pub line-number-spec : {M : Type 1} → statement M
 line-number-spec = tie.close (tie.spec line-slot-requires field-requires returns)

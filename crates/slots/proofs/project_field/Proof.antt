@@ -6,7 +6,7 @@ use native.Mathlib.Omega.{arith}
 use borrow.Author.Needs.{needs}
 use lib.Dec.{lit≤}
 use Rattle.keys.specs.Table.{pe}
-use Rattle.keys.specs.Slot.{highestOf, slots}
+use Rattle.keys.specs.Slot.{slots}
 use Rattle.slots.specs.Field.{seenAt}
 use Rattle.slots.proofs.Inside.{inside}
 use Rattle.slots.proofs.project_field.Statement.{statement}
@@ -16,7 +16,6 @@ project-slot-requires : tie.Need-project-slot-requires
 project-slot-requires c κs = search needs
 
 read-requires : tie.Need-read-requires
-unfolding highestOf
 read-requires c κs =
     let s = c .before .before in
     let below = subst⁻¹ (λ (n : ℕ). n < slots) (c .project-slot .ensures) (inside pe (lit≤ tt) (s .args .month ∷ []) (omega arith, tt)) in

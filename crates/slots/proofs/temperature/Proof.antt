@@ -1,15 +1,15 @@
 -- `slots::temperature` meets its contract: the slot of its month lies inside the book, and the test picks the case. Assumes nothing.
 use mathlib.Core.Path.{_≡_, sym, ap, _∙_, subst⁻¹}
-use mathlib.Core.Bool.{true, false}
+use mathlib.Core.Bool.{true, false, not}
 use mathlib.Core.List.{[], _∷_}
-use Prim.Native.Nat.{ℕ, _<_}
+use Prim.Native.Nat.{ℕ, _+_, _*_, _<_}
 use native.Mathlib.Omega.{arith}
 use borrow.Author.Needs.{needs}
 use lib.Dec.{lit≤}
 use Rattle.keys.specs.Table.{tp}
-use Rattle.keys.specs.Number.{signedOf}
-use Rattle.keys.specs.Slot.{highestOf, slots, slotOf}
-use Rattle.slots.specs.Field.{fieldAt, filledAt}
+use Rattle.keys.specs.Number.{recordBytes, numberAt, signedOf}
+use Rattle.keys.specs.Slot.{slots, slotOf}
+use Rattle.book.specs.Book.{free}
 use Rattle.slots.specs.declared.Warmth.the-variants.{Tenths}
 use Rattle.slots.proofs.Inside.{inside}
 use Rattle.slots.proofs.temperature.Statement.{statement}
@@ -19,14 +19,12 @@ temperature-slot-requires : tie.Need-temperature-slot-requires
 temperature-slot-requires c κs = search needs
 
 filled-requires : tie.Need-filled-requires
-unfolding highestOf
 filled-requires c κs =
     let s = c .before .before in
     let below = subst⁻¹ (λ (n : ℕ). n < slots) (c .temperature-slot .ensures) (inside tp (lit≤ tt) (s .args .month ∷ []) (omega arith, tt)) in
     (s .pre .0, below)
 
 tenths-requires : tie.Need-tenths-requires
-unfolding highestOf
 tenths-requires c κs =
     let s = c .before .before .before .before in
     let below = subst⁻¹ (λ (n : ℕ). n < slots) (c .before .before .temperature-slot .ensures) (inside tp (lit≤ tt) (s .args .month ∷ []) (omega arith, tt)) in
@@ -37,14 +35,14 @@ returns c =
     let s = c .before .before .before .before .before in
     let book = s .args .book .now in
     let slot = c .before .before .before .temperature-slot .ensures in
-    let full : filledAt book (slotOf tp (s .args .month ∷ [])) ≡ true = sym (c .before .before .filled .ensures ∙ ap (filledAt book) slot) ∙ c .before .if1 .taken in
-    ap Tenths (search needs ∙ c .tenths .ensures ∙ ap (λ (n : ℕ). signedOf (fieldAt book n 4 2)) slot) ∙ rw full
+    let full : not (free book (slotOf tp (s .args .month ∷ []))) ≡ true = sym (c .before .before .filled .ensures ∙ ap (λ (n : ℕ). not (free book n)) slot) ∙ c .before .if1 .taken in
+    ap Tenths (search needs ∙ c .tenths .ensures ∙ ap (λ (n : ℕ). signedOf (numberAt book (n * recordBytes + 4) 2)) slot) ∙ rw full
 
 returns-2 : tie.Need-returns-2
 returns-2 c =
     let s = c .before .before .before .before in
     let book = s .args .book .now in
-    let bare : filledAt book (slotOf tp (s .args .month ∷ [])) ≡ false = sym (c .before .filled .ensures ∙ ap (filledAt book) (c .before .before .temperature-slot .ensures)) ∙ c .if1 .left in
+    let bare : not (free book (slotOf tp (s .args .month ∷ []))) ≡ false = sym (c .before .filled .ensures ∙ ap (λ (n : ℕ). not (free book n)) (c .before .before .temperature-slot .ensures)) ∙ c .if1 .left in
     rw bare
 
 pub temperature-spec : {M : Type 1} → statement M

@@ -1,7 +1,6 @@
 -- `slots::tenths` meets its contract: it is the signed number in the book. Assumes nothing.
 use mathlib.Core.Path.{ap, _∙_}
 use Rattle.keys.specs.Number.{signedOf}
-use Rattle.slots.specs.Field.{fieldAt}
 use borrow.Author.Needs.{needs}
 use Rattle.slots.proofs.tenths.Statement.{statement}
 use Rattle.slots.proofs.tenths.Tie as tie
@@ -19,7 +18,6 @@ signed-requires : tie.Need-signed-requires
 signed-requires c κs = search needs
 
 returns : tie.Need-returns
-unfolding fieldAt
 returns c = search needs ∙ c .signed .ensures ∙ ap signedOf (c .before .number .ensures .0)
 
 pub tenths-spec : {M : Type 1} → statement M

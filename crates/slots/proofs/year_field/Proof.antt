@@ -5,7 +5,7 @@ use Prim.Native.Nat.{ℕ, _<_}
 use borrow.Author.Needs.{needs}
 use lib.Dec.{lit≤}
 use Rattle.keys.specs.Table.{yr}
-use Rattle.keys.specs.Slot.{highestOf, slots}
+use Rattle.keys.specs.Slot.{slots}
 use Rattle.slots.specs.Field.{seenAt}
 use Rattle.slots.proofs.Inside.{inside}
 use Rattle.slots.proofs.year_field.Statement.{statement}
@@ -15,7 +15,6 @@ year-slot-requires : tie.Need-year-slot-requires
 year-slot-requires c κs = search needs
 
 read-requires : tie.Need-read-requires
-unfolding highestOf
 read-requires c κs =
     let s = c .before .before in
     let below = subst⁻¹ (λ (n : ℕ). n < slots) (c .year-slot .ensures) (inside yr (lit≤ tt) [] tt) in
