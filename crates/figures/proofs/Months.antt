@@ -7,12 +7,13 @@ use lib.ListN.{replicate}
 use Rattle.units.specs.Grams.{methane}
 use Rattle.reading.specs.Exact.{isUpTo, timesDown, scaledOf}
 use Rattle.reading.specs.Hour.{readingOf}
-use Rattle.laws.specs.Counting.{firstFrom}
+use Rattle.laws.specs.Counting.{sum, firstFrom}
+use Rattle.gaps.specs.Series.{amount}
 use Rattle.gaps.specs.Filling.{startOf, totalOf, averageOf, fillOf, filled}
 use Rattle.meter.specs.declared.MonthAnswer.{MonthAnswer}
 use Rattle.meter.specs.declared.MonthAnswer.the-variants.{Destroyed}
-use Rattle.meter.specs.Hour.{flowOf, contentOf, isSound, recordedAt, gramsIn, hourOf}
-use Rattle.meter.specs.Month.{sumOf, gramsOf, destroyedOf, meteredOf, isRefusedAt, monthOf}
+use Rattle.hour.specs.Hour.{recordedOf, hourAt, gramsIn, hourOf}
+use Rattle.meter.specs.Month.{gramsOf, destroyedOf, meteredOf, monthOf}
 use Rattle.figures.proofs.Starred.{nearest}
 
 -- 672 hours at 100.0 and 60.0, with no flow in so many hours from hour 10 on
@@ -21,9 +22,9 @@ month missing after =
     monthOf (replicate 672 (nearest 100 1)) (replicate 672 (nearest 60 1)) (replicate 10 0 ++ (replicate missing 1 ++ replicate after 0)) 10000
 
 pub five-missing : month 5 657 ≡ Destroyed (methane 27417600)
-unfolding monthOf isRefusedAt isSound meteredOf destroyedOf gramsOf sumOf hourOf gramsIn recordedAt flowOf contentOf readingOf filled fillOf averageOf startOf totalOf firstFrom scaledOf isUpTo timesDown round
+unfolding monthOf meteredOf destroyedOf gramsOf sum hourOf gramsIn amount hourAt recordedOf readingOf filled fillOf averageOf startOf totalOf firstFrom scaledOf isUpTo timesDown round
 five-missing = refl
 
 pub six-missing : month 6 656 ≡ Destroyed (methane 27172800)
-unfolding monthOf isRefusedAt isSound meteredOf destroyedOf gramsOf sumOf hourOf gramsIn recordedAt flowOf contentOf readingOf filled fillOf averageOf startOf totalOf firstFrom scaledOf isUpTo timesDown round
+unfolding monthOf meteredOf destroyedOf gramsOf sum hourOf gramsIn amount hourAt recordedOf readingOf filled fillOf averageOf startOf totalOf firstFrom scaledOf isUpTo timesDown round
 six-missing = refl

@@ -19,9 +19,11 @@ use Rattle.lagoon.specs.Month.{enteredOf, emptyOf, outcomeOf}
 use Rattle.reading.specs.declared.Measure.the-variants.{Whole}
 use Rattle.reading.specs.Exact.{isUpTo, timesDown, scaledOf, hundredthsOf}
 use Rattle.reading.specs.Hour.{readingOf}
+use Rattle.laws.specs.Counting.{sum}
+use Rattle.gaps.specs.Series.{amount}
 use Rattle.gaps.specs.Filling.{filled}
-use Rattle.meter.specs.Hour.{flowOf, contentOf, recordedAt, gramsIn, hourOf}
-use Rattle.meter.specs.Month.{sumOf, gramsOf, destroyedOf, meteredOf}
+use Rattle.hour.specs.Hour.{recordedOf, hourAt, gramsIn, hourOf}
+use Rattle.meter.specs.Month.{gramsOf, destroyedOf, meteredOf}
 
 -- 100 head, table solids 1000, mass 6000, share 10,000, in a month counted from January 2011
 abbrev pub herd : ℕ → Solids
@@ -69,7 +71,7 @@ pub record Starred : Type 0 where
   pub content-60·1 : hundredthsOf (nearest 601 10) ≡ Whole 6009
 
 pub starred : Starred
-unfolding enteredOf outcomeOf daysOf goneOf lengthOf lengthsOf februaryOf leapOf factorOf ruledOf summedOf denominator added subtracted b0RuleOf meteredOf destroyedOf gramsOf sumOf hourOf gramsIn recordedAt flowOf contentOf readingOf filled scaledOf isUpTo timesDown round
+unfolding enteredOf outcomeOf daysOf goneOf lengthOf lengthsOf februaryOf leapOf factorOf ruledOf summedOf denominator added subtracted b0RuleOf meteredOf destroyedOf gramsOf sum hourOf gramsIn amount hourAt recordedOf readingOf filled scaledOf isUpTo timesDown round
 starred =
     record {
       enters-31-days = refl;

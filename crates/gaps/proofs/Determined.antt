@@ -1,7 +1,8 @@
--- No two outcomes fit the contract of a public function. `fill` tells the series that its array holds, which fixes the array.
+-- No two outcomes fit the contract of a public function. `fill` tells the series that its array holds, which fixes the array; `slot`
+-- tells what its number is read as, which fixes the number.
 -- Assumes nothing.
 use Prim.Native.Nat.{ℕ, zero, suc}
-use mathlib.Core.Path.{_≡_, refl, ap}
+use mathlib.Core.Path.{_≡_, refl, ap, sym, _∙_}
 use mathlib.Core.List.{List}
 use native.Mathlib.Omega.{arith}
 use lib.ListN.{length, getD}
@@ -32,4 +33,4 @@ pub read-one : OneAnswer Read.Learnt
 read-one κ a x y s t = one
 
 pub slot-one : OneAnswer Slot.Learnt
-slot-one κ a x y s t = one
+slot-one κ a x y s t p q = same-slot x y (p ∙ sym q)

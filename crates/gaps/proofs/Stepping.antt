@@ -11,19 +11,15 @@ use borrow.Author.Tests.{eq-eqb, ne-eqb, eqb-false}
 use lib.Dec.{eqb}
 use lib.ListN.{length, set}
 use lib.Seq.{getD-set-same, getD-set-other}
-use Rattle.gaps.specs.Series.{isRecorded, valueOf, slotOf, series}
+use Rattle.gaps.specs.Series.{isRecorded, valueOf, series}
 use Rattle.gaps.specs.Filling.{startOf, plus, totalOf}
 use Rattle.gaps.specs.declared.Value.{Value}
 use Rattle.gaps.specs.declared.Value.the-variants.{Recorded, Missing}
 
--- a slot that is read, and one that is written
+-- a slot that is read
 pub slot-read : (x : ℕ) → (x ≡ 0 → ⊥) → Recorded (x - 1) ≡ valueOf x
 slot-read zero h = absurd (h refl)
 slot-read (suc x) h = ap Recorded (omega arith)
-
-pub slot-written : (v : Value) → valueOf (slotOf v) ≡ v
-slot-written (Recorded n) = ap valueOf (add-one n)
-slot-written Missing = refl
 
 pub total-more :
     (s : ℕ → Value) (a k : ℕ) {t v : Value} → t ≡ totalOf s a k → v ≡ s (a + k) → plus t v ≡ totalOf s a (k + 1)
@@ -77,14 +73,14 @@ module _ (s : ℕ → Value) (h : ℕ) where
       by-test true e l = absurd (omega (arith, start-anew e))
       by-test false e l = subst P (start-same e) (known e)
 
-module _ (l : List ℕ) (i : ℕ) (v : Value) where
+module _ (l : List ℕ) (i slot : ℕ) where
   pub stored :
-      (P : ℕ → Value) → i < length l → ((k : ℕ) → k < i → series l k ≡ P k) → v ≡ P i →
-      (k : ℕ) → k < i + 1 → series (set l i (slotOf v)) k ≡ P k
+      (P : ℕ → Value) → i < length l → ((k : ℕ) → k < i → series l k ≡ P k) → valueOf slot ≡ P i →
+      (k : ℕ) → k < i + 1 → series (set l i slot) k ≡ P k
   stored P b p q =
-      below-more (λ (k : ℕ). series (set l i (slotOf v)) k ≡ P k) i
-      (λ k h. ap valueOf (getD-set-other l i k (slotOf v) 0 (λ e. omega arith)) ∙ p k h)
-      (ap valueOf (getD-set-same l i (slotOf v) 0 b) ∙ (slot-written v ∙ q))
+      below-more (λ (k : ℕ). series (set l i slot) k ≡ P k) i
+      (λ k h. ap valueOf (getD-set-other l i k slot 0 (λ e. omega arith)) ∙ p k h)
+      (ap valueOf (getD-set-same l i slot 0 b) ∙ q)
 
-  pub later : ((k : ℕ) → i ≤ k → series l k ≡ Missing) → (k : ℕ) → i + 1 ≤ k → series (set l i (slotOf v)) k ≡ Missing
-  later p k h = ap valueOf (getD-set-other l i k (slotOf v) 0 (λ e. omega arith)) ∙ p k (omega arith)
+  pub later : ((k : ℕ) → i ≤ k → series l k ≡ Missing) → (k : ℕ) → i + 1 ≤ k → series (set l i slot) k ≡ Missing
+  later p k h = ap valueOf (getD-set-other l i k slot 0 (λ e. omega arith)) ∙ p k (omega arith)

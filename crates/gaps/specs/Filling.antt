@@ -41,13 +41,9 @@ unfoldable pub averageOf : ℕ → (ℕ → Value) → ℕ → ℕ → Value
 averageOf unit s a b =
     cond (leb neighbours a) (inUnits unit (plus (totalOf s (a - neighbours) neighbours) (totalOf s b neighbours))) Missing
 
--- a run of up to five hours is filled
-abbrev pub longest : ℕ
-longest = 5
-
 -- a run of 1 to 5 hours is filled with that average, and no other run is
 unfoldable pub fillOf : ℕ → (ℕ → Value) → ℕ → ℕ → Value
-fillOf unit s a b = cond (leb 1 (b - a) && leb (b - a) longest) (averageOf unit s a b) Missing
+fillOf unit s a b = cond (leb 1 (b - a) && leb (b - a) 5) (averageOf unit s a b) Missing
 
 -- what fills the run that starts at hour a
 abbrev pub fillFrom : ℕ → (ℕ → Value) → ℕ → ℕ → Value

@@ -1,5 +1,5 @@
 -- A month's series: each hour, from 0, recorded a whole number, or nothing. It stands in an array, and past the array's end nothing is recorded.
-use Prim.Native.Nat.{ℕ, zero, suc, _+_, _≤_, _<_, _^_}
+use Prim.Native.Nat.{ℕ, zero, suc, _≤_, _<_, _^_}
 use mathlib.Core.Bool.{Bool, true, false}
 use mathlib.Core.List.{List}
 use lib.ListN.{getD}
@@ -14,10 +14,6 @@ isRecorded Missing = false
 abbrev pub valueOf : ℕ → Value
 valueOf zero = Missing
 valueOf (suc n) = Recorded n
-
-abbrev pub slotOf : Value → ℕ
-slotOf (Recorded n) = n + 1
-slotOf Missing = 0
 
 abbrev pub series : List ℕ → ℕ → Value
 series hours h = valueOf (getD hours h 0)

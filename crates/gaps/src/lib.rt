@@ -7,7 +7,7 @@ ghost use mathlib.Core.Bool.{false};
 ghost use lib.Dec.{eqb};
 ghost use Prim.Native.Nat.{ℕ, _*_, _≤_, _<_};
 ghost use lib.ListN.{length};
-ghost use Rattle.gaps.specs.Series.{isRecorded, slotOf, valueOf, series, amount, mostAmount, mostHours, Small, IsUnit};
+ghost use Rattle.gaps.specs.Series.{isRecorded, valueOf, series, amount, mostAmount, mostHours, Small, IsUnit};
 ghost use Rattle.gaps.specs.Filling.{neighbours, plus, totalOf, inUnits, endOf, averageOf, fillOf, fillFrom, orElse, startOf, filled};
 
 // What an hour of a series has: a whole number, or nothing.
@@ -197,9 +197,10 @@ pub fn read(slot: u64) -> Value
     }
 }
 
+// The number that is read as a value.
 pub fn slot(value: Value) -> u64
     requires { ⌜ amount value ≤ mostAmount ⌝ }
-    ensures { λ r. ⌜ r ≡ slotOf value ⌝ }
+    ensures { λ r. ⌜ valueOf r ≡ value ⌝ }
 {
     match value {
         Value::Recorded(n) => n + 1,

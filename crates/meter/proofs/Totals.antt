@@ -1,44 +1,42 @@
 -- A month's grams: one more hour, and a bound.
 -- Assumes nothing.
-use Prim.Native.Nat.{ℕ, zero, suc, _+_, _*_, _≤_}
-use mathlib.Core.Path.{_≡_, ap}
-use native.Mathlib.Nat.{suc-mul}
+use Prim.Native.Nat.{ℕ, suc, _+_, _-_, _*_, _≤_}
+use mathlib.Core.Path.{_≡_}
 use native.Mathlib.Numerals.{add-one}
 use native.Mathlib.Omega.{arith}
+use Rattle.laws.specs.Counting.{sum}
+use Rattle.laws.proofs.Counting.{sum-none, sum-most}
 use Rattle.units.specs.Grams.{methane}
 use Rattle.units.specs.declared.methane.Methane.{Methane}
 use Rattle.gaps.specs.declared.Value.{Value}
 use Rattle.gaps.specs.Series.{amount}
-use Rattle.meter.specs.declared.Kind.{Kind}
-use Rattle.meter.specs.Hour.{hourOf, wholeEfficiency}
-use Rattle.meter.specs.Month.{sumOf, gramsOf}
-use Rattle.meter.specs.Room.{mostFlow, mostContent}
-use Rattle.meter.proofs.Sizes.{mostGrams, hour-most}
-
-sum-most : (f : ℕ → ℕ) (m n : ℕ) → ((h : ℕ) → f h ≤ m) → sumOf f n ≤ n * m
-unfolding sumOf
-sum-most f m zero b = omega arith
-sum-most f m (suc n) b = omega (arith, suc-mul n m, sum-most f m n b, b n)
-
-sum-more : (f : ℕ → ℕ) (n : ℕ) → sumOf f n + f n ≡ sumOf f (n + 1)
-unfolding sumOf
-sum-more f n = rw (add-one n)
+use Rattle.hour.specs.declared.Kind.{Kind}
+use Rattle.hour.specs.Hour.{hourOf, wholeEfficiency}
+use Rattle.hour.specs.Room.{mostFlow, mostContent}
+use Rattle.hour.proofs.Sizes.{mostGrams, hour-most}
+use Rattle.meter.specs.Month.{gramsOf}
 
 module _ (k : Kind) (e : ℕ) (state : ℕ → ℕ) (f c flow content : ℕ → Value) where
+  -- hour h by itself
+  abbrev grams : ℕ → ℕ
+  grams h = hourOf k e (state h) (f h) (c h) (flow h) (content h)
+
   pub grams-none : 0 ≡ gramsOf k e state f c flow content 0
-  unfolding gramsOf sumOf
-  grams-none = omega arith
+  unfolding gramsOf
+  grams-none = sum-none (λ n. grams (n - 1))
 
   pub grams-more :
       (n : ℕ) {t v : Methane} → t ≡ methane (gramsOf k e state f c flow content n) →
-      v ≡ methane (hourOf k e (state n) (f n) (c n) (flow n) (content n)) →
-      methane (t .0 + v .0) ≡ methane (gramsOf k e state f c flow content (n + 1))
-  unfolding gramsOf
-  grams-more n p q = rw (p, q) (ap methane (sum-more (λ h. hourOf k e (state h) (f h) (c h) (flow h) (content h)) n))
+      v ≡ methane (grams n) → methane (t .0 + v .0) ≡ methane (gramsOf k e state f c flow content (n + 1))
+  unfolding gramsOf sum
+  grams-more n p q =
+      let one : n + 1 ≡ suc n = add-one n in
+      let here : suc n - 1 ≡ n = omega arith in
+      rw (p, q, one, here)
 
   module _ (whole : e ≤ wholeEfficiency) (flows : (h : ℕ) → amount (flow h) ≤ mostFlow k) (contents : (h : ℕ) → amount (content h) ≤ mostContent) where
     pub grams-small : (n : ℕ) → gramsOf k e state f c flow content n ≤ n * mostGrams
     unfolding gramsOf
     grams-small n =
-        sum-most (λ h. hourOf k e (state h) (f h) (c h) (flow h) (content h)) mostGrams n
-        (λ h. hour-most k e (state h) (f h) (c h) (flow h) (content h) whole (flows h) (contents h))
+        sum-most (λ i. grams (i - 1)) mostGrams n
+        (λ i low high. hour-most k e (state (i - 1)) (f (i - 1)) (c (i - 1)) (flow (i - 1)) (content (i - 1)) whole (flows (i - 1)) (contents (i - 1)))

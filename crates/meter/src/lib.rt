@@ -1,17 +1,15 @@
 // The month of one biogas meter (01, "The meter month"). Each hour is read once, its series are looked at a fixed number of times, and nothing lent is written.
 ghost use mathlib.Core.Path.{_≡_};
-ghost use mathlib.Core.Bool.{_||_, cond};
 ghost use Prim.Native.Nat.{ℕ, _≤_, _<_};
 ghost use lib.ListN.{length};
 ghost use Rattle.units.specs.Grams.{methane};
-ghost use Rattle.reading.specs.Exact.{isUpTo, mostPerCent, hundredthsOf};
-ghost use Rattle.gaps.specs.Series.{series, amount, isRecorded, mostHours};
-ghost use Rattle.meter.specs.Hour.{valueOf, flowOf, contentOf, isSound, recordedAt, gramsIn, weighed, hourOf, wholeEfficiency};
-ghost use Rattle.meter.specs.Month.{stateAt, gramsOf, destroyedOf, isMonth, areHours, isRefusedAt, firstRefused, monthOf};
-ghost use Rattle.meter.specs.Room.{mostFlow, mostContent};
-use gaps::Value;
-use reading::Measure;
-use reading::hour::Reading;
+ghost use Rattle.reading.specs.Hour.{stateAt};
+ghost use Rattle.gaps.specs.Series.{series, amount, mostHours};
+ghost use Rattle.hour.specs.Hour.{hourAt, flowOf, contentOf, wholeEfficiency};
+ghost use Rattle.hour.specs.Room.{mostFlow, mostContent};
+ghost use Rattle.meter.specs.Month.{gramsOf, destroyedOf, isMonth, areHours, firstRefused, monthOf};
+use hour::Hour;
+use hour::Kind;
 use units::Methane;
 
 pub enum MonthAnswer {
@@ -29,9 +27,6 @@ const NO_MONTH: u8 = 10;
 // Refused: an hour whose state or reading is bad.
 const BAD_HOUR: u8 = 11;
 
-// A device that destroys all has this efficiency.
-const WHOLE_EFFICIENCY: u32 = 10_000;
-
 // The month of a meter in cubic metres.
 pub fn month(flows: &[f32], contents: &[f32], states: &[u8], efficiency: u32) -> MonthAnswer
     ensures { λ r. ⌜ r ≡ monthOf (now (flows .entry)) (now (contents .entry)) (now (states .entry)) efficiency ⌝ }
@@ -39,7 +34,7 @@ pub fn month(flows: &[f32], contents: &[f32], states: &[u8], efficiency: u32) ->
     if !are_hours(flows.len(), contents.len(), states.len()) {
         return MonthAnswer::Refused(NO_MONTH, 0);
     }
-    if WHOLE_EFFICIENCY < efficiency {
+    if hour::WHOLE_EFFICIENCY < efficiency {
         return MonthAnswer::Refused(OUT_OF_RANGE, 0);
     }
     let hours = states.len();
@@ -92,13 +87,13 @@ fn record_hours(
     requires { ⌜ (length (now flows) ≡ length (now states)) × (length (now contents) ≡ length (now states)) ⌝ }
     requires { ⌜ (length (now states) ≤ length (now litres)) × (length (now states) ≤ length (now hundredths)) ⌝ }
     ensures { λ r. ⌜ r ≡ firstRefused (now (flows .entry)) (now (contents .entry)) (now (states .entry)) ⌝ }
-    ensures { λ r. ⌜ ((h : ℕ) → h < r → series (now (litres .exit)) h ≡ recordedAt flowOf (now (flows .entry)) (now (contents .entry)) (now (states .entry)) h) ⌝ }
-    ensures { λ r. ⌜ ((h : ℕ) → h < r → series (now (hundredths .exit)) h ≡ recordedAt contentOf (now (flows .entry)) (now (contents .entry)) (now (states .entry)) h) ⌝ }
+    ensures { λ r. ⌜ ((h : ℕ) → h < r → series (now (litres .exit)) h ≡ flowOf (hourAt (now (flows .entry)) (now (contents .entry)) (now (states .entry)) h)) ⌝ }
+    ensures { λ r. ⌜ ((h : ℕ) → h < r → series (now (hundredths .exit)) h ≡ contentOf (hourAt (now (flows .entry)) (now (contents .entry)) (now (states .entry)) h)) ⌝ }
 {
     let mut hour = 0;
     while hour < states.len() {
-        let recorded = recorded_at(flows, contents, states, hour);
-        let Hour::Recorded(flow, content) = recorded else {
+        let recorded = hour::recorded_at(flows, contents, states, hour);
+        let Hour::Taken(flow, content) = recorded else {
             return hour;
         };
         litres[hour] = gaps::slot(flow);
@@ -106,59 +101,6 @@ fn record_hours(
         hour += 1;
     }
     hour
-}
-
-// An hour of a month: refused, or its flow in litres and its content in hundredths of a per cent, where they are there.
-enum Hour {
-    Refused,
-    Recorded(Value, Value),
-}
-
-// Neither value, and the device out.
-const MOST_STATE: u8 = 7;
-
-// What an hour, from 0, records, or that it is refused.
-fn recorded_at(flows: &[f32], contents: &[f32], states: &[u8], hour: usize) -> Hour
-    requires { ⌜ (hour < length (now flows)) × (hour < length (now contents)) × (hour < length (now states)) ⌝ }
-    ensures { λ r. ⌜ r ≡ cond (isRefusedAt (now (flows .entry)) (now (contents .entry)) (now (states .entry)) hour) Hour.Refused (Hour.Recorded (recordedAt flowOf (now (flows .entry)) (now (contents .entry)) (now (states .entry)) hour) (recordedAt contentOf (now (flows .entry)) (now (contents .entry)) (now (states .entry)) hour)) ⌝ }
-{
-    if MOST_STATE < states[hour] {
-        return Hour::Refused;
-    }
-    recorded(reading::hour::reading_at(flows, contents, states, hour))
-}
-
-// What a reading records, or that its hour is refused: each value that is present is turned down or counted in one test.
-fn recorded(reading: Reading) -> Hour
-    ensures { λ r. ⌜ r ≡ cond (isSound reading) (Hour.Recorded (flowOf reading) (contentOf reading)) Hour.Refused ⌝ }
-{
-    match reading {
-        Reading::Both(flow, content) => match reading::litres(flow) {
-            Measure::Whole(litres) => with_content(Value::Recorded(litres), content),
-            Measure::TurnedDown => Hour::Refused,
-        },
-        Reading::NoFlow(content) => with_content(Value::Missing, content),
-        Reading::NoContent(flow) => match reading::litres(flow) {
-            Measure::Whole(litres) => Hour::Recorded(Value::Recorded(litres), Value::Missing),
-            Measure::TurnedDown => Hour::Refused,
-        },
-        Reading::Neither => Hour::Recorded(Value::Missing, Value::Missing),
-    }
-}
-
-// The hour of a flow that is taken, or missing, and a content that is present.
-fn with_content(flow: Value, content: f32) -> Hour
-    ensures { λ r. ⌜ r ≡ cond (isUpTo mostPerCent content) (Hour.Recorded flow (valueOf (hundredthsOf content))) Hour.Refused ⌝ }
-{
-    match reading::hundredths(content) {
-        Measure::Whole(hundredths) => Hour::Recorded(flow, Value::Recorded(hundredths)),
-        Measure::TurnedDown => Hour::Refused,
-    }
-}
-
-// What a meter's flow is counted in, and so what it weighs.
-enum Kind {
-    CubicMetres,
 }
 
 // Averages are in whole litres and whole hundredths, as the series are.
@@ -202,7 +144,7 @@ fn sum(
 {
     let mut total = Methane::of_grams(0);
     for hour in 0..states.len() {
-        total = total.plus(hour_grams(
+        total = total.plus(hour::hour_grams(
             kind,
             efficiency,
             states[hour],
@@ -213,67 +155,4 @@ fn sum(
         ));
     }
     total
-}
-
-// What an hour destroyed, by its flow and content as recorded and after filling.
-fn hour_grams(
-    kind: Kind,
-    efficiency: u32,
-    state: u8,
-    recorded_flow: Value,
-    recorded_content: Value,
-    flow: Value,
-    content: Value,
-) -> Methane
-    requires { ⌜ (efficiency ≤ wholeEfficiency) × (amount flow ≤ mostFlow kind) × (amount content ≤ mostContent) ⌝ }
-    ensures { λ r. ⌜ r ≡ methane (hourOf kind efficiency state «recorded_flow» «recorded_content» flow content) ⌝ }
-{
-    if reading::hour::is_out(state) {
-        return Methane::of_grams(0);
-    }
-    if !is_either(recorded_flow, recorded_content) {
-        return Methane::of_grams(0);
-    }
-    weigh(kind, flow, content).share(efficiency as u64, WHOLE_EFFICIENCY as u64)
-}
-
-fn is_either(flow: Value, content: Value) -> bool
-    ensures { λ r. ⌜ r ≡ (isRecorded flow || isRecorded content) ⌝ }
-{
-    if gaps::is_recorded(flow) {
-        return true;
-    }
-    gaps::is_recorded(content)
-}
-
-// The methane of an hour; none where its flow or its content is missing.
-fn weigh(kind: Kind, flow: Value, content: Value) -> Methane
-    requires { ⌜ (amount flow ≤ mostFlow kind) × (amount content ≤ mostContent) ⌝ }
-    ensures { λ r. ⌜ r ≡ methane (weighed kind flow content) ⌝ }
-{
-    match flow {
-        Value::Recorded(flow) => match content {
-            Value::Recorded(content) => kind.grams(flow, content),
-            Value::Missing => Methane::of_grams(0),
-        },
-        Value::Missing => Methane::of_grams(0),
-    }
-}
-
-// Hundredths of a gram in a litre of methane (5.3).
-const DENSITY: u64 = 68;
-
-// A hundred for those, times the ten thousand hundredths of a per cent in the whole.
-const DENSITY_PARTS: u64 = 1_000_000;
-
-impl Kind {
-    // Grams of methane in a flow of some content, in hundredths of a per cent.
-    fn grams(self, flow: u64, content: u64) -> Methane
-        requires { ⌜ (flow ≤ mostFlow self) × (content ≤ mostContent) ⌝ }
-        ensures { λ r. ⌜ r ≡ methane (gramsIn self flow content) ⌝ }
-    {
-        match self {
-            Kind::CubicMetres => Methane::of_grams(flow * content * DENSITY / DENSITY_PARTS),
-        }
-    }
 }

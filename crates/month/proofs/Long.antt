@@ -1,6 +1,6 @@
 -- An input that is longer than any month is refused, whatever its bytes after the mark: so an input is read no further than that.
 -- Assumes nothing.
-use Prim.Native.Nat.{ℕ, _≤_}
+use Prim.Native.Nat.{ℕ, _+_, _*_, _-_, _≤_}
 use mathlib.Core.Path.{_≡_, refl, ap, sym, _∙_}
 use mathlib.Core.Bool.{Bool, true, false, _&&_, cond}
 use mathlib.Core.List.{List}
@@ -10,12 +10,13 @@ use lib.Dec.{eqb, leb}
 use lib.Ieee.{Float}
 use lib.ListN.{length, take, drop, length-drop}
 use lib.Seq.{getD-take, length-take-le}
+use Rattle.keys.specs.Number.{numberAt}
 use Rattle.gaps.specs.Series.{mostHours}
 use Rattle.meter.specs.declared.MonthAnswer.{MonthAnswer}
 use Rattle.meter.specs.declared.MonthAnswer.the-variants.{Refused}
 use Rattle.meter.specs.Month.{areHours, monthOf}
 use Rattle.meter.proofs.Hours.{as-long}
-use Rattle.month.specs.Format.{isOtherMark, floatsAt, flowsOf, contentsOf, contentsFrom, statesFrom, lengthOf, efficiencyOf, lentOf, statedOf}
+use Rattle.month.specs.Format.{isOtherMark, floatsAt, lentOf, isWhole, statedOf}
 use Rattle.month.proofs.Floats.{floats-length}
 
 -- what is no month is refused 10
@@ -33,17 +34,19 @@ no-month flows contents states efficiency h =
     not-hours (areHours (length flows) (length contents) (length states)) (length flows) (length contents) (length states) refl h in
     rw n
 
+-- a count of flows or of contents that is not that of the states after them is refused too
 pub lent-none :
-    (input : List ℕ) → ((flowsOf input ≡ length (drop (statesFrom input) input)) × (contentsOf input ≡ length (drop (statesFrom input) input)) × (length (drop (statesFrom input) input) ≤ mostHours) → ⊥) →
-    lentOf input ≡ Refused 10 0
+    (input : List ℕ) (flows contents : ℕ) →
+    ((flows ≡ length input - (10 + 4 * flows + 4 * contents)) × (contents ≡ length input - (10 + 4 * flows + 4 * contents)) × (length input - (10 + 4 * flows + 4 * contents) ≤ mostHours) → ⊥) →
+    lentOf input flows contents ≡ Refused 10 0
 unfolding lentOf
-lent-none input h =
-    no-month (floatsAt input 10 (flowsOf input)) (floatsAt input (contentsFrom input) (contentsOf input)) (drop (statesFrom input) input)
-    (efficiencyOf input)
+lent-none input flows contents h =
+    let n = length-drop (10 + 4 * flows + 4 * contents) input in
+    no-month (floatsAt input 10 flows) (floatsAt input (10 + 4 * flows) contents) (drop (10 + 4 * flows + 4 * contents) input) (numberAt input 2 2)
     (λ e. h (
-      sym (floats-length input 10 (flowsOf input)) ∙ e .0,
-      sym (floats-length input (contentsFrom input) (contentsOf input)) ∙ e .1,
-      e .2,
+      sym (floats-length input 10 flows) ∙ e .0 ∙ n,
+      sym (floats-length input (10 + 4 * flows) contents) ∙ e .1 ∙ n,
+      rw (← n) (e .2),
     ))
 
 -- a byte more than the longest month has
@@ -61,11 +64,14 @@ and-r false b e = let z : _≡_ {A = ℕ} 0 1 = cc in absurd (omega arith)
 long-refused : (input : List ℕ) → tooLong ≤ length input → statedOf input ≡ cond (isOtherMark input) (Refused 2 0) (Refused 10 0)
 unfolding statedOf
 long-refused input long =
+    let flows = numberAt input 4 2 in
+    let contents = numberAt input 6 2 in
+    let states = numberAt input 8 2 in
     ap (cond (isOtherMark input) (Refused 2 0))
-    (picked (leb 10 (length input) && eqb (length input) (lengthOf input)) (lentOf input)
+    (picked (isWhole input flows contents states) (lentOf input flows contents)
     (λ e.
-    let whole : length input ≡ lengthOf input = eqb-true (length input) (lengthOf input) (and-r (leb 10 (length input)) (eqb (length input) (lengthOf input)) e) in
-    lent-none input (λ h. omega (arith, whole, h .0, h .1, h .2, length-drop (statesFrom input) input))))
+    let whole : length input ≡ 10 + 4 * flows + 4 * contents + states = eqb-true (length input) (10 + 4 * flows + 4 * contents + states) (and-r (leb 10 (length input)) (eqb (length input) (10 + 4 * flows + 4 * contents + states)) e) in
+    lent-none input flows contents (λ h. omega (arith, whole, h .0, h .1, h .2))))
 
 same-mark : (input : List ℕ) → tooLong ≤ length input → isOtherMark (take tooLong input) ≡ isOtherMark input
 same-mark input long =

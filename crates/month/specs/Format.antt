@@ -5,9 +5,9 @@ use Prim.Native.Char.{code}
 use mathlib.Core.Bool.{Bool, not, _&&_, cond}
 use mathlib.Core.List.{List, [], _∷_}
 use lib.Dec.{eqb, leb}
-use lib.Ieee.{Float}
+use lib.Ieee.{Float, binary32, ofBits}
 use lib.ListN.{length, getD, drop}
-use Rattle.reading.specs.Stored.{floatAt}
+use Rattle.keys.specs.Number.{numberAt}
 use Rattle.meter.specs.declared.MonthAnswer.{MonthAnswer}
 use Rattle.meter.specs.declared.MonthAnswer.the-variants.{Refused}
 use Rattle.meter.specs.Month.{monthOf}
@@ -16,45 +16,25 @@ use Rattle.meter.specs.Month.{monthOf}
 abbrev pub isOtherMark : List ℕ → Bool
 isOtherMark input = leb 2 (length input) && not (eqb (getD input 0 0) (code "C") && eqb (getD input 1 0) (code "M"))
 
-abbrev pub halfAt : List ℕ → ℕ → ℕ
-halfAt input at = getD input at 0 + getD input (at + 1) 0 * 0x100
-
--- so many floats, from `at` on
+-- so many floats, from `at` on; every pattern that is no number gives the one float that is none
 unfoldable pub floatsAt : List ℕ → ℕ → ℕ → List Float
 floatsAt input at zero = []
-floatsAt input at (suc count) = floatAt input at ∷ floatsAt input (at + 4) count
+floatsAt input at (suc count) = ofBits binary32 (numberAt input at 4) ∷ floatsAt input (at + 4) count
 
--- what the ten bytes of its header say of an input: the efficiency and the counts
-abbrev pub efficiencyOf : List ℕ → ℕ
-efficiencyOf input = halfAt input 2
+-- the month of an input that has so many flows and contents, and states from there on
+unfoldable pub lentOf : List ℕ → ℕ → ℕ → MonthAnswer
+lentOf input flows contents =
+    let states = 10 + 4 * flows + 4 * contents in
+    monthOf (floatsAt input 10 flows) (floatsAt input (10 + 4 * flows) contents) (drop states input) (numberAt input 2 2)
 
-abbrev pub flowsOf : List ℕ → ℕ
-flowsOf input = halfAt input 4
-
-abbrev pub contentsOf : List ℕ → ℕ
-contentsOf input = halfAt input 6
-
-abbrev pub statesOf : List ℕ → ℕ
-statesOf input = halfAt input 8
-
--- where the contents and the states begin, and how long the input is then
-abbrev pub contentsFrom : List ℕ → ℕ
-contentsFrom input = 10 + 4 * flowsOf input
-
-abbrev pub statesFrom : List ℕ → ℕ
-statesFrom input = contentsFrom input + 4 * contentsOf input
-
-abbrev pub lengthOf : List ℕ → ℕ
-lengthOf input = statesFrom input + statesOf input
-
--- the month that an input lends which is as long as it says
-unfoldable pub lentOf : List ℕ → MonthAnswer
-lentOf input =
-    monthOf (floatsAt input 10 (flowsOf input)) (floatsAt input (contentsFrom input) (contentsOf input)) (drop (statesFrom input) input)
-    (efficiencyOf input)
+-- the input is as long as its counts of flows, contents and states say
+abbrev pub isWhole : List ℕ → ℕ → ℕ → ℕ → Bool
+isWhole input flows contents states = leb 10 (length input) && eqb (length input) (10 + 4 * flows + 4 * contents + states)
 
 -- another mark is refused 2; an input that is shorter or longer than it says, 10, since no such month was lent
 unfoldable pub statedOf : List ℕ → MonthAnswer
 statedOf input =
+    let flows = numberAt input 4 2 in
+    let contents = numberAt input 6 2 in
     cond (isOtherMark input) (Refused 2 0)
-    (cond (leb 10 (length input) && eqb (length input) (lengthOf input)) (lentOf input) (Refused 10 0))
+    (cond (isWhole input flows contents (numberAt input 8 2)) (lentOf input flows contents) (Refused 10 0))

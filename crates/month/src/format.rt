@@ -1,10 +1,11 @@
 // A meter month as bytes: the mark CM, the efficiency, three counts, and then the flows, the contents and the states that they count.
 ghost use mathlib.Core.Path.{_≡_};
-ghost use Prim.Native.Nat.{_+_, _*_, _≤_, _<_, _^_};
+ghost use Prim.Native.Nat.{_+_, _*_, _≤_};
 ghost use lib.ListN.{length, take};
 ghost use Rattle.gaps.specs.Series.{mostHours};
-ghost use Rattle.month.specs.Format.{isOtherMark, halfAt, floatsAt, flowsOf, contentsOf, lengthOf, lentOf, statedOf};
+ghost use Rattle.month.specs.Format.{isOtherMark, floatsAt, lentOf, statedOf};
 use meter::MonthAnswer;
+use reading::stored::FLOAT;
 
 // Refused: a mark other than CM.
 const UNKNOWN_MARK: u8 = 2;
@@ -27,8 +28,8 @@ const CONTENTS_AT: usize = 6;
 // Where the number of states stands.
 const STATES_AT: usize = 8;
 
-// The bytes of a float.
-const FLOAT: usize = 4;
+// The bytes of the efficiency, and of a count.
+const HALF: usize = 2;
 
 // The month that the input holds, stated or refused.
 pub fn stated(input: &[u8]) -> MonthAnswer
@@ -40,19 +41,19 @@ pub fn stated(input: &[u8]) -> MonthAnswer
     if input.len() < HEADER {
         return MonthAnswer::Refused(NO_MONTH, 0);
     }
-    let flows = half_at(input, FLOWS_AT) as usize;
-    let contents = half_at(input, CONTENTS_AT) as usize;
-    let states = half_at(input, STATES_AT) as usize;
+    let flows = keys::number(input, FLOWS_AT, HALF) as usize;
+    let contents = keys::number(input, CONTENTS_AT, HALF) as usize;
+    let states = keys::number(input, STATES_AT, HALF) as usize;
     if input.len() != HEADER + FLOAT * flows + FLOAT * contents + states {
         return MonthAnswer::Refused(NO_MONTH, 0);
     }
     lent(input, flows, contents)
 }
 
-// The month of an input that is as long as its counts say.
+// The month of an input that has so many flows and contents, and states from there on.
 fn lent(input: &[u8], flows: usize, contents: usize) -> MonthAnswer
-    requires { ⌜ (flows ≡ flowsOf (now input)) × (contents ≡ contentsOf (now input)) × (length (now input) ≡ lengthOf (now input)) ⌝ }
-    ensures { λ r. ⌜ r ≡ lentOf (now (input .entry)) ⌝ }
+    requires { ⌜ 10 + 4 * flows + 4 * contents ≤ length (now input) ⌝ }
+    ensures { λ r. ⌜ r ≡ lentOf (now (input .entry)) flows contents ⌝ }
 {
     if gaps::MOST_HOURS < flows {
         return MonthAnswer::Refused(NO_MONTH, 0);
@@ -68,7 +69,7 @@ fn lent(input: &[u8], flows: usize, contents: usize) -> MonthAnswer
         &all_flows[..flows],
         &all_contents[..contents],
         &input[states_at..],
-        half_at(input, EFFICIENCY_AT),
+        keys::number(input, EFFICIENCY_AT, HALF) as u32,
     )
 }
 
@@ -83,21 +84,6 @@ fn is_other_mark(input: &[u8]) -> bool
         return true;
     }
     input[1] != b'M'
-}
-
-// Two bytes as a number, the lower first.
-fn half_at(input: &[u8], at: usize) -> u32
-    requires { ⌜ at + 2 ≤ length (now input) ⌝ }
-    ensures { λ r. ⌜ r ≡ halfAt (now (input .entry)) at ⌝ }
-    ensures { λ r. ⌜ r < 2 ^ 16 ⌝ }
-{
-    half(input[at], input[at + 1])
-}
-
-fn half(low: u8, high: u8) -> u32
-    ensures { λ r. ⌜ (r ≡ low + high * 0x100) × (r < 2 ^ 16) ⌝ }
-{
-    low as u32 + high as u32 * 0x100
 }
 
 // So many floats of the input, from `at` on.

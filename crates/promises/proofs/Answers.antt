@@ -20,8 +20,8 @@ use Rattle.book.proofs.Free.{empty-free}
 use Rattle.book.proofs.Kept.{empty-slot}
 use Rattle.reading.specs.Hour.{readingOf}
 use Rattle.laws.specs.Counting.{firstFrom}
-use Rattle.meter.specs.Hour.{isSound, wholeEfficiency}
-use Rattle.meter.specs.Month.{meteredOf, isRefusedAt, monthOf}
+use Rattle.hour.specs.Hour.{recordedOf, hourAt, wholeEfficiency}
+use Rattle.meter.specs.Month.{meteredOf, monthOf}
 use Rattle.meter.specs.declared.MonthAnswer.the-variants.{Destroyed}
 use Rattle.year.specs.Answer as Year
 use Rattle.year.specs.Figures.{figuresOf}
@@ -51,7 +51,7 @@ abbrev pub out : List ℕ
 out = replicate hours 7
 
 pub month-weighed : monthOf silent silent out wholeEfficiency ≡ Destroyed (methane (meteredOf silent silent out wholeEfficiency))
-unfolding monthOf isRefusedAt isSound readingOf firstFrom
+unfolding monthOf hourAt recordedOf readingOf firstFrom
 month-weighed = refl
 
 pub year-stated : (book : List ℕ) (year : ℕ) → Answered book year → Year.answerOf book year ≡ Stated (figuresOf book year)

@@ -4,5 +4,4 @@ pub mod Determined
 pub mod Edges
 pub mod Most
 pub mod Product
-pub mod Ranges
 pub mod States

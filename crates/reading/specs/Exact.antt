@@ -24,16 +24,10 @@ isUpTo most (fin false m e) = leb (m * up e) (most * down e)
 unfoldable pub scaledOf : ℕ → ℕ → Float → Measure
 scaledOf factor most x = cond (isUpTo most x) (Whole (timesDown factor x)) TurnedDown
 
--- a flow is from 0 to 100,000 cubic metres, and a content from 0 to 100 per cent
-abbrev pub mostCubicMetres : ℕ
-mostCubicMetres = 100000
-
-abbrev pub mostPerCent : ℕ
-mostPerCent = 100
-
--- litres are a thousand times a flow, and a content is counted in hundredths of a per cent, each rounded down
+-- a flow is from 0 to 100,000 cubic metres, and litres are a thousand times it
 abbrev pub litresOf : Float → Measure
-litresOf flow = scaledOf 1000 mostCubicMetres flow
+litresOf flow = scaledOf 1000 100000 flow
 
+-- a content is from 0 to 100 per cent, and is counted in hundredths of one
 abbrev pub hundredthsOf : Float → Measure
-hundredthsOf content = scaledOf 100 mostPerCent content
+hundredthsOf content = scaledOf 100 100 content

@@ -20,6 +20,9 @@ readingOf state flow content =
 abbrev pub isOut : ℕ → Bool
 isOut state = eqb (state / 4 % 2) 1
 
--- hour h's reading, h from 0; past the last state there is neither value
+-- hour h's state, h from 0; past the last hour neither value is there
+abbrev pub stateAt : List ℕ → ℕ → ℕ
+stateAt states h = getD states h 3
+
 abbrev pub readingAt : List Float → List Float → List ℕ → ℕ → Reading
-readingAt flows contents states h = readingOf (getD states h 3) (getD flows h nan) (getD contents h nan)
+readingAt flows contents states h = readingOf (stateAt states h) (getD flows h nan) (getD contents h nan)

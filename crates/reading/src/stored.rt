@@ -3,14 +3,17 @@ ghost use mathlib.Core.Path.{_≡_};
 ghost use Prim.Native.Nat.{_+_, _≤_};
 ghost use lib.ListN.{length};
 ghost use lib.Ieee.{binary32, ofBits};
-ghost use Rattle.reading.specs.Stored.{wordOf, floatAt};
+ghost use Rattle.keys.specs.Number.{numberAt};
+
+// The bytes of a float.
+pub const FLOAT: usize = 4;
 
 // The float of the four bytes from `at` on.
 pub fn float_at(bytes: &[u8], at: usize) -> f32
     requires { ⌜ at + 4 ≤ length (now bytes) ⌝ }
-    ensures { λ r. ⌜ r ≡ floatAt (now (bytes .entry)) at ⌝ }
+    ensures { λ r. ⌜ r ≡ ofBits binary32 (numberAt (now (bytes .entry)) at 4) ⌝ }
 {
-    of_bits(word(bytes[at], bytes[at + 1], bytes[at + 2], bytes[at + 3]))
+    of_bits(keys::number(bytes, at, FLOAT) as u32)
 }
 
 // All bits of a pattern but its sign.
@@ -28,11 +31,4 @@ fn of_bits(bits: u32) -> f32
     } else {
         f32::from_bits(bits)
     }
-}
-
-// Four bytes as a number, the lowest first.
-fn word(a: u8, b: u8, c: u8, d: u8) -> u32
-    ensures { λ r. ⌜ r ≡ wordOf a b c d ⌝ }
-{
-    a as u32 + b as u32 * 0x100 + c as u32 * 0x1_0000 + d as u32 * 0x100_0000
 }

@@ -78,8 +78,8 @@ loop-again c =
       refl,
       simp length-set (omega arith),
       start-kept hours hour (λ (a : ℕ). f .result ≡ fillFrom (s .args .unit) hours n a) known,
-      rw (c .slot .ensures) (stored (l .loop .out) hour v (filled (s .args .unit) hours n) (omega arith) (l .loop .inv .4) here),
-      rw (c .slot .ensures) (later (l .loop .out) hour v (l .loop .inv .5)),
+      stored (l .loop .out) hour (c .slot .result) (filled (s .args .unit) hours n) (omega arith) (l .loop .inv .4) (c .slot .ensures ∙ here),
+      later (l .loop .out) hour (c .slot .result) (l .loop .inv .5),
     )
 
 returns : tie.Need-returns Inv-loop μ-loop

@@ -1,8 +1,9 @@
 -- `gaps::slot` meets its contract: the number is small enough for one more.
 -- Assumes nothing.
-use mathlib.Core.Path.{sym, ap}
+use mathlib.Core.Path.{sym, ap, _∙_}
+use native.Mathlib.Numerals.{add-one}
 use native.Mathlib.Omega.{arith}
-use Rattle.gaps.specs.Series.{slotOf}
+use Rattle.gaps.specs.Series.{valueOf}
 use Rattle.gaps.proofs.Sizes.{amount-of}
 use borrow.Author.Needs.{needs}
 use Rattle.gaps.proofs.slot.Statement.{statement}
@@ -18,7 +19,7 @@ enum-told : tie.Need-enum-told
 enum-told c = search needs
 
 returns : tie.Need-returns
-returns c = sym (ap slotOf (c .before .value .given .1))
+returns c = ap valueOf (add-one (c .before .value .given .0 .0)) ∙ sym (c .before .value .given .1)
 
 returns-2 : tie.Need-returns-2
 returns-2 c = search needs

@@ -8,9 +8,9 @@ use Rattle.gaps.specs.declared.Value.{Value}
 use Rattle.gaps.specs.Series.{series}
 use Rattle.gaps.specs.Filling.{filled}
 use Rattle.gaps.proofs.Sizes.{filled-most}
+use Rattle.hour.specs.Room.{mostFlow, mostContent}
+use Rattle.hour.proofs.Sizes.{flows-most}
 use Rattle.meter.specs.Month.{destroyedOf}
-use Rattle.meter.specs.Room.{mostFlow, mostContent}
-use Rattle.meter.proofs.Sizes.{flows-most}
 use borrow.Author.Needs.{needs}
 use Rattle.meter.proofs.destroyed.Statement.{statement}
 use Rattle.meter.proofs.destroyed.Tie as tie

@@ -1,7 +1,7 @@
 -- `meter::month` meets its contract: each return knows the refusals that were not given before it, and the two arrays, cut at the month's end, are
 -- the series that it recorded.
 -- Assumes nothing.
-use mathlib.Core.Path.{sym, _∙_, subst}
+use mathlib.Core.Path.{refl, sym, _∙_, subst}
 use Prim.Native.Nat.{ℕ, _≤_}
 use native.Mathlib.Omega.{arith}
 use lib.ListN.{length}
@@ -9,12 +9,13 @@ use lib.Seq.{length-take-le}
 use borrow.Author.Tests.{lt-ltb, le-ltb, not-true, not-false}
 use Rattle.gaps.specs.declared.Value.{Value}
 use Rattle.gaps.specs.Series.{amount}
-use Rattle.meter.specs.declared.Kind.the-variants.{CubicMetres}
-use Rattle.meter.specs.Hour.{flowOf, contentOf}
+use Rattle.hour.specs.declared.Kind.the-variants.{CubicMetres}
+use Rattle.hour.specs.Hour.{flowOf, contentOf}
+use Rattle.hour.specs.Room.{mostFlow, mostContent}
+use Rattle.hour.proofs.Sizes.{flows-small, contents-small}
 use Rattle.meter.specs.Month.{meteredOf, monthOf}
-use Rattle.meter.specs.Room.{mostFlow, mostContent}
 use Rattle.meter.proofs.Hours.{as-long}
-use Rattle.meter.proofs.Readings.{no-flow, no-content, cut, flows-small, contents-small}
+use Rattle.meter.proofs.Readings.{cut}
 use borrow.Author.Needs.{needs}
 use Rattle.meter.proofs.month.Statement.{statement}
 use Rattle.meter.proofs.month.Tie as tie
@@ -91,8 +92,8 @@ destroyed-requires c κs =
     let long : n ≤ length L = omega (arith, r .2, laid .kept .1 .1 .1 .0) in
     let long' : n ≤ length H = omega (arith, r .2, laid .kept .1 .1 .1 .1 .0) in
     let passed : n ≤ laid .result = c .before .before .if3 .left in
-    let f = cut flowOf (a .flows .now) (a .contents .now) (a .states .now) no-flow L long (λ h b. laid .ensures .1 .0 h (omega arith)) in
-    let g = cut contentOf (a .flows .now) (a .contents .now) (a .states .now) no-content H long' (λ h b. laid .ensures .1 .1 h (omega arith)) in (
+    let f = cut flowOf (a .flows .now) (a .contents .now) (a .states .now) refl L long (λ h b. laid .ensures .1 .0 h (omega arith)) in
+    let g = cut contentOf (a .flows .now) (a .contents .now) (a .states .now) refl H long' (λ h b. laid .ensures .1 .1 h (omega arith)) in (
       (length-take-le n L long, length-take-le n H long', r .2, c .before .before .before .before .before .before .before .before .if2 .left),
       (
         (λ h. subst (λ (l : ℕ → Value). amount (l h) ≤ mostFlow CubicMetres) (sym f) (flows-small (a .flows .now) (a .contents .now) (a .states .now) h)),
@@ -116,8 +117,8 @@ returns-4 c =
       ← laid .ensures .0,
       le-ltb _ _ passed,
       c .destroyed .ensures,
-      cut flowOf (a .flows .now) (a .contents .now) (a .states .now) no-flow L (omega (arith, r .2, laid .kept .1 .1 .1 .0)) (λ h b. laid .ensures .1 .0 h (omega arith)),
-      cut contentOf (a .flows .now) (a .contents .now) (a .states .now) no-content H (omega (arith, r .2, laid .kept .1 .1 .1 .1 .0)) (λ h b. laid .ensures .1 .1 h (omega arith)),
+      cut flowOf (a .flows .now) (a .contents .now) (a .states .now) refl L (omega (arith, r .2, laid .kept .1 .1 .1 .0)) (λ h b. laid .ensures .1 .0 h (omega arith)),
+      cut contentOf (a .flows .now) (a .contents .now) (a .states .now) refl H (omega (arith, r .2, laid .kept .1 .1 .1 .1 .0)) (λ h b. laid .ensures .1 .1 h (omega arith)),
     )
 
 pub month-spec : {M : Type 1} → statement M

@@ -1,7 +1,7 @@
 -- `meter::record_hours` meets its contract. The loop's invariant: the search from the hour at hand on gives what the whole search gives, and
 -- the hours passed stand in both series.
 -- Assumes nothing.
-use mathlib.Core.Path.{_≡_, refl, ap, sym, _∙_}
+use mathlib.Core.Path.{_≡_, refl, ap, sym, _∙_, subst}
 use Prim.Native.Nat.{ℕ, _≤_, _<_, _-_}
 use native.Mathlib.Omega.{arith}
 use borrow.Author.Needs.{needs}
@@ -9,17 +9,20 @@ use borrow.Author.Count.{below-none}
 use lib.ListN.{length, length-set}
 use Rattle.laws.specs.Counting.{firstFrom}
 use Rattle.laws.proofs.Counting.{search-stops, search-passes, search-ends}
-use Rattle.gaps.specs.Series.{series}
+use Rattle.gaps.specs.Series.{series, amount}
 use Rattle.gaps.proofs.Stepping.{stored}
-use Rattle.meter.specs.Hour.{flowOf, contentOf, recordedAt}
-use Rattle.meter.specs.Month.{isRefusedAt, firstRefused}
-use Rattle.meter.proofs.Readings.{flows-small, contents-small}
-use Rattle.meter.proofs.Recording.{is-refused, is-recorded}
+use Rattle.hour.specs.declared.Hour.{Hour}
+use Rattle.hour.specs.declared.Hour.the-variants.{Taken}
+use Rattle.hour.specs.declared.Kind.the-variants.{CubicMetres}
+use Rattle.hour.specs.Hour.{hourAt, isRefused, flowOf, contentOf}
+use Rattle.hour.specs.Room.{mostFlow, mostContent}
+use Rattle.hour.proofs.Sizes.{flows-small, contents-small}
+use Rattle.meter.specs.Month.{firstRefused}
 use Rattle.meter.proofs.record_hours.Statement.{statement}
 use Rattle.meter.proofs.record_hours.Tie as tie
 
 abbrev Inv-loop : tie.InvT-loop
-Inv-loop flows contents states litres₀ hundredths₀ hour₀ litres hundredths hour = (hour ≤ length states) × (length litres ≡ length litres₀) × (length hundredths ≡ length hundredths₀) × (firstRefused flows contents states ≡ firstFrom hour (length states - hour) (isRefusedAt flows contents states)) × ((k : ℕ) → k < hour → series litres k ≡ recordedAt flowOf flows contents states k) × ((k : ℕ) → k < hour → series hundredths k ≡ recordedAt contentOf flows contents states k)
+Inv-loop flows contents states litres₀ hundredths₀ hour₀ litres hundredths hour = (hour ≤ length states) × (length litres ≡ length litres₀) × (length hundredths ≡ length hundredths₀) × (firstRefused flows contents states ≡ firstFrom hour (length states - hour) (λ k. isRefused (hourAt flows contents states k))) × ((k : ℕ) → k < hour → series litres k ≡ flowOf (hourAt flows contents states k)) × ((k : ℕ) → k < hour → series hundredths k ≡ contentOf (hourAt flows contents states k))
 
 abbrev μ-loop : tie.MeasureT-loop
 μ-loop flows contents states litres₀ hundredths₀ hour₀ litres hundredths hour = length states - hour
@@ -29,7 +32,7 @@ loop-holds c =
     let a = c .before .before .before .before .before .args in
     let n = length (a .states .now) in
     let all : n ≡ n - 0 = omega arith in
-    (search needs, refl, refl, ap (λ (k : ℕ). firstFrom 0 k (isRefusedAt (a .flows .now) (a .contents .now) (a .states .now))) all, below-none _, below-none _)
+    (search needs, refl, refl, ap (λ (k : ℕ). firstFrom 0 k (λ h. isRefused (hourAt (a .flows .now) (a .contents .now) (a .states .now) h))) all, below-none _, below-none _)
 
 recorded-at-requires : tie.Need-recorded-at-requires Inv-loop μ-loop
 recorded-at-requires c κs = omega arith
@@ -54,7 +57,7 @@ returns c =
     let C = a .contents .now in
     let S = a .states .now in
     let h = l .loop .hour in (
-      sym (l .loop .inv .3 ∙ search-stops (length S) h (isRefusedAt F C S) (omega arith) (is-refused (isRefusedAt F C S h) (recordedAt flowOf F C S h) (recordedAt contentOf F C S h) (sym (c .before .before .recorded-at .ensures) ∙ c .enum-told .given .1))),
+      sym (l .loop .inv .3 ∙ search-stops (length S) h (λ k. isRefused (hourAt F C S k)) (omega arith) (ap isRefused (sym (c .before .before .recorded-at .ensures) ∙ c .enum-told .given .1))),
       (l .loop .inv .4, l .loop .inv .5),
     )
 
@@ -67,8 +70,8 @@ slot-requires c κs =
     let S = a .states .now in
     let h = l .loop .hour in
     let g = c .before .recorded .given in
-    let k = is-recorded (isRefusedAt F C S h) (recordedAt flowOf F C S h) (recordedAt contentOf F C S h) (g .0 .0) (g .0 .1 .0) (sym (c .before .before .before .recorded-at .ensures) ∙ g .1) in
-    rw (k .1) (omega (arith, flows-small F C S h))
+    let taken : hourAt F C S h ≡ Taken (g .0 .0) (g .0 .1 .0) = sym (c .before .before .before .recorded-at .ensures) ∙ g .1 in
+    omega (arith, subst (λ (x : Hour). amount (flowOf x) ≤ mostFlow CubicMetres) taken (flows-small F C S h))
 
 mul-litres : tie.Need-mul-litres Inv-loop μ-loop
 mul-litres c = search needs
@@ -85,8 +88,8 @@ slot-requires-2 c κs =
     let S = a .states .now in
     let h = l .loop .hour in
     let g = c .before .before .recorded .given in
-    let k = is-recorded (isRefusedAt F C S h) (recordedAt flowOf F C S h) (recordedAt contentOf F C S h) (g .0 .0) (g .0 .1 .0) (sym (c .before .before .before .before .recorded-at .ensures) ∙ g .1) in
-    rw (k .2) (omega (arith, contents-small F C S h))
+    let taken : hourAt F C S h ≡ Taken (g .0 .0) (g .0 .1 .0) = sym (c .before .before .before .before .recorded-at .ensures) ∙ g .1 in
+    omega (arith, subst (λ (x : Hour). amount (contentOf x) ≤ mostContent) taken (contents-small F C S h))
 
 mul-hundredths : tie.Need-mul-hundredths Inv-loop μ-loop
 mul-hundredths c = search needs
@@ -109,13 +112,13 @@ loop-again c =
     let S = a .states .now in
     let h = l .loop .hour in
     let g = c .before .before .before .recorded .given in
-    let k = is-recorded (isRefusedAt F C S h) (recordedAt flowOf F C S h) (recordedAt contentOf F C S h) (g .0 .0) (g .0 .1 .0) (sym (c .before .before .before .before .before .recorded-at .ensures) ∙ g .1) in (
+    let taken : hourAt F C S h ≡ Taken (g .0 .0) (g .0 .1 .0) = sym (c .before .before .before .before .before .recorded-at .ensures) ∙ g .1 in (
       omega arith,
       simp length-set (l .loop .inv .1),
       simp length-set (l .loop .inv .2),
-      l .loop .inv .3 ∙ search-passes (length S) h (isRefusedAt F C S) (omega arith) (k .0),
-      rw (c .before .slot .ensures) (stored (l .loop .litres) h (g .0 .0) (recordedAt flowOf F C S) (omega arith) (l .loop .inv .4) (k .1)),
-      rw (c .slot2 .ensures) (stored (l .loop .hundredths) h (g .0 .1 .0) (recordedAt contentOf F C S) (omega arith) (l .loop .inv .5) (k .2)),
+      l .loop .inv .3 ∙ search-passes (length S) h (λ k. isRefused (hourAt F C S k)) (omega arith) (ap isRefused taken),
+      stored (l .loop .litres) h (c .before .slot .result) (λ k. flowOf (hourAt F C S k)) (omega arith) (l .loop .inv .4) (c .before .slot .ensures ∙ sym (ap flowOf taken)),
+      stored (l .loop .hundredths) h (c .slot2 .result) (λ k. contentOf (hourAt F C S k)) (omega arith) (l .loop .inv .5) (c .slot2 .ensures ∙ sym (ap contentOf taken)),
     )
 
 same-length-3 : tie.Need-same-length-3 Inv-loop μ-loop
@@ -128,7 +131,7 @@ returns-2 : tie.Need-returns-2 Inv-loop μ-loop
 returns-2 c =
     let l = c .before in
     let a = l .before .before .before .before .before .before .args in
-    (sym (l .loop .inv .3 ∙ search-ends (length (a .states .now)) (l .loop .hour) (isRefusedAt (a .flows .now) (a .contents .now) (a .states .now)) (omega arith)), (l .loop .inv .4, l .loop .inv .5))
+    (sym (l .loop .inv .3 ∙ search-ends (length (a .states .now)) (l .loop .hour) (λ h. isRefused (hourAt (a .flows .now) (a .contents .now) (a .states .now) h)) (omega arith)), (l .loop .inv .4, l .loop .inv .5))
 
 pub record-hours-spec : {M : Type 1} → statement M
 record-hours-spec =

@@ -6,10 +6,11 @@ use native.Mathlib.Omega.{arith}
 use borrow.Author.Needs.{needs}
 use lib.ListN.{length, getD}
 use Rattle.units.specs.Grams.{methane}
+use Rattle.reading.specs.Hour.{stateAt}
 use Rattle.reading.proofs.States.{before-end}
 use Rattle.gaps.specs.Series.{series}
-use Rattle.meter.specs.Month.{stateAt, gramsOf}
-use Rattle.meter.proofs.Sizes.{hour-most}
+use Rattle.hour.proofs.Sizes.{hour-most}
+use Rattle.meter.specs.Month.{gramsOf}
 use Rattle.meter.proofs.Totals.{grams-none, grams-more, grams-small}
 use Rattle.meter.proofs.sum.Statement.{statement}
 use Rattle.meter.proofs.sum.Tie as tie

@@ -14,14 +14,12 @@ use Rattle.month.proofs.format.lent.Tie as tie
 returns : tie.Need-returns
 returns c =
     let s = c .before .before in
-    let input = s .args .input .now in
-    sym (lent-none input (λ h. omega (arith, h .0, h .2, s .pre .0, c .if1 .taken)))
+    sym (lent-none (s .args .input .now) (s .args .flows) (s .args .contents) (λ h. omega (arith, h .0, h .2, c .if1 .taken)))
 
 returns-2 : tie.Need-returns-2
 returns-2 c =
     let s = c .before .before .before in
-    let input = s .args .input .now in
-    sym (lent-none input (λ h. omega (arith, h .1, h .2, s .pre .1, c .if2 .taken)))
+    sym (lent-none (s .args .input .now) (s .args .flows) (s .args .contents) (λ h. omega (arith, h .1, h .2, c .if2 .taken)))
 
 mul-contents-at : tie.Need-mul-contents-at
 mul-contents-at c = search needs
@@ -62,8 +60,11 @@ part-month-start c = search needs
 part-month-end : tie.Need-part-month-end
 part-month-end c = search needs
 
-half-at-requires : tie.Need-half-at-requires
-half-at-requires c κs = search needs
+number-requires : tie.Need-number-requires
+number-requires c κs = search needs
+
+cast-month : tie.Need-cast-month
+cast-month c = omega (arith, c .number .ensures .1)
 
 month-requires : tie.Need-month-requires
 month-requires c κs = search needs
@@ -72,7 +73,7 @@ returns-3 : tie.Need-returns-3
 unfolding lentOf
 returns-3 c =
     let s = c .before .before .before .before .before .before .before .before .before .before in
-    rw (← s .pre .0, ← s .pre .1, ← c .before .before .before .before .before .before .floats .ensures .1, ← c .before .before .before .before .before .floats2 .ensures .1, ← c .before .half-at .ensures .0, ← rest (s .args .input .now) (10 + 4 * s .args .flows + 4 * s .args .contents))
+    rw (← c .before .before .before .before .before .before .floats .ensures .1, ← c .before .before .before .before .before .floats2 .ensures .1, ← c .before .number .ensures .0, ← rest (s .args .input .now) (10 + 4 * s .args .flows + 4 * s .args .contents))
     (c .month .ensures)
 
 pub lent-spec : {M : Type 1} → statement M
@@ -94,6 +95,7 @@ lent-spec =
     sub-month
     part-month-start
     part-month-end
-    half-at-requires
+    number-requires
+    cast-month
     month-requires
     returns-3)

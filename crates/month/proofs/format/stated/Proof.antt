@@ -1,10 +1,12 @@
 -- `month::format::stated` meets its contract: each return knows the tests that led there.
 -- Assumes nothing.
 use mathlib.Core.Path.{sym, _∙_}
+use Prim.Native.Nat.{_+_, _*_}
 use native.Mathlib.Omega.{arith}
 use borrow.Author.Tests.{lt-leb, le-leb, eq-eqb, ne-eqb}
 use lib.ListN.{length}
-use Rattle.month.specs.Format.{lengthOf, statedOf}
+use Rattle.keys.specs.Number.{numberAt}
+use Rattle.month.specs.Format.{statedOf}
 use borrow.Author.Needs.{needs}
 use Rattle.month.proofs.format.stated.Statement.{statement}
 use Rattle.month.proofs.format.stated.Tie as tie
@@ -22,23 +24,14 @@ returns-2 c =
     let input = c .before .before .before .before .args .input .now in
     rw (sym (c .before .before .is-other-mark .ensures) ∙ c .before .if1 .left, lt-leb 10 (length input) (c .if2 .taken))
 
-half-at-requires : tie.Need-half-at-requires
-half-at-requires c κs = search needs
+number-requires : tie.Need-number-requires
+number-requires c κs = search needs
 
-cast-flows : tie.Need-cast-flows
-cast-flows c = search needs
+number-requires-2 : tie.Need-number-requires-2
+number-requires-2 c κs = search needs
 
-half-at-requires-2 : tie.Need-half-at-requires-2
-half-at-requires-2 c κs = search needs
-
-cast-contents : tie.Need-cast-contents
-cast-contents c = search needs
-
-half-at-requires-3 : tie.Need-half-at-requires-3
-half-at-requires-3 c κs = search needs
-
-cast-states : tie.Need-cast-states
-cast-states c = search needs
+number-requires-3 : tie.Need-number-requires-3
+number-requires-3 c κs = search needs
 
 mul-if3 : tie.Need-mul-if3
 mul-if3 c = search needs
@@ -62,7 +55,7 @@ returns-3 c =
     rw (
       sym (c .before .before .before .before .before .before .is-other-mark .ensures) ∙ c .before .before .before .before .before .if1 .left,
       le-leb 10 (length input) (c .before .before .before .before .if2 .left),
-      ne-eqb (length input) (lengthOf input) (λ e. c .if3 .taken (e ∙ omega (arith, c .before .before .before .half-at .ensures .0, c .before .before .half-at2 .ensures .0, c .before .half-at3 .ensures .0))),
+      ne-eqb (length input) (10 + 4 * numberAt input 4 2 + 4 * numberAt input 6 2 + numberAt input 8 2) (λ e. c .if3 .taken (e ∙ omega (arith, c .before .before .before .number .ensures .0, c .before .before .number2 .ensures .0, c .before .number3 .ensures .0))),
     )
 
 lent-requires : tie.Need-lent-requires
@@ -75,7 +68,9 @@ returns-4 c =
     rw (
       sym (c .before .before .before .before .before .before .before .is-other-mark .ensures) ∙ c .before .before .before .before .before .before .if1 .left,
       le-leb 10 (length input) (c .before .before .before .before .before .if2 .left),
-      eq-eqb (length input) (lengthOf input) (omega (arith, c .before .if3 .left, c .before .before .before .before .half-at .ensures .0, c .before .before .before .half-at2 .ensures .0, c .before .before .half-at3 .ensures .0)),
+      eq-eqb (length input) (10 + 4 * numberAt input 4 2 + 4 * numberAt input 6 2 + numberAt input 8 2) (omega (arith, c .before .if3 .left, c .before .before .before .before .number .ensures .0, c .before .before .before .number2 .ensures .0, c .before .before .number3 .ensures .0)),
+      ← c .before .before .before .before .number .ensures .0,
+      ← c .before .before .before .number2 .ensures .0,
     )
     (c .lent .ensures)
 
@@ -86,12 +81,9 @@ stated-spec =
     is-other-mark-requires
     returns
     returns-2
-    half-at-requires
-    cast-flows
-    half-at-requires-2
-    cast-contents
-    half-at-requires-3
-    cast-states
+    number-requires
+    number-requires-2
+    number-requires-3
     mul-if3
     add-if3
     mul-if3-2

@@ -1,15 +1,15 @@
--- `meter::Kind::grams` meets its contract: the largest flow at the largest content stays far below 64 bits.
+-- `hour::Kind::grams` meets its contract: the largest flow at the largest content stays far below 64 bits.
 -- Assumes nothing.
 use mathlib.Core.Path.{ap, _∙_}
 use native.Mathlib.Omega.{arith}
 use native.Mathlib.Nat.{mul-le-mul}
 use Rattle.units.specs.Grams.{methane}
-use Rattle.meter.specs.Room.{mostContent}
-use Rattle.meter.proofs.Sizes.{flows-most}
-use Rattle.meter.proofs.Weighing.{cubic-metres}
+use Rattle.hour.specs.Room.{mostContent}
+use Rattle.hour.proofs.Sizes.{flows-most}
+use Rattle.hour.proofs.Weighing.{cubic-metres}
 use borrow.Author.Needs.{needs}
-use Rattle.meter.proofs.Kind.grams.Statement.{statement}
-use Rattle.meter.proofs.Kind.grams.Tie as tie
+use Rattle.hour.proofs.Kind.grams.Statement.{statement}
+use Rattle.hour.proofs.Kind.grams.Tie as tie
 
 mul-of-grams : tie.Need-mul-of-grams
 mul-of-grams c = omega (arith, mul-le-mul {n₁ = c .args .flow} {m₁ = c .args .content} {n₂ = 100000000} {m₂ = mostContent} (omega (arith, flows-most (c .args .self))) (c .pre .1))

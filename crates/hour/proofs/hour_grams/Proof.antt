@@ -1,15 +1,16 @@
--- `meter::hour_grams` meets its contract: each return knows the tests that led there.
+-- `hour::hour_grams` meets its contract: each return knows the tests that led there.
 -- Assumes nothing.
 use mathlib.Core.Path.{sym, ap, _∙_}
 use native.Mathlib.Omega.{arith}
 use borrow.Author.Tests.{not-true, not-false}
 use Rattle.units.specs.Grams.{methane, shareOf}
 use Rattle.units.specs.declared.methane.Methane.{Methane}
-use Rattle.meter.specs.Hour.{weighed, wholeEfficiency, hourOf}
-use Rattle.meter.proofs.Sizes.{weighed-most, share-most}
+use Rattle.gaps.specs.Series.{amount}
+use Rattle.hour.specs.Hour.{gramsIn, wholeEfficiency, hourOf}
+use Rattle.hour.proofs.Sizes.{grams-most, share-most}
 use borrow.Author.Needs.{needs}
-use Rattle.meter.proofs.hour_grams.Statement.{statement}
-use Rattle.meter.proofs.hour_grams.Tie as tie
+use Rattle.hour.proofs.hour_grams.Statement.{statement}
+use Rattle.hour.proofs.hour_grams.Tie as tie
 
 is-out-requires : tie.Need-is-out-requires
 is-out-requires c κs = search needs
@@ -45,8 +46,10 @@ cast-share c = search needs
 share-requires : tie.Need-share-requires
 share-requires c κs =
     let s = c .before .before .before .before .before in
-    let m = weighed-most (s .args .kind) (s .args .flow) (s .args .content) (s .pre .1) (s .pre .2) in
-    rw (c .weigh .ensures) (omega (arith, share-most (weighed (s .args .kind) (s .args .flow) (s .args .content)) (s .args .efficiency) m (s .pre .0)), omega arith)
+    let flow = amount (s .args .flow) in
+    let content = amount (s .args .content) in
+    let m = grams-most (s .args .kind) flow content (s .pre .1) (s .pre .2) in
+    rw (c .weigh .ensures) (omega (arith, share-most (gramsIn (s .args .kind) flow content) (s .args .efficiency) m (s .pre .0)), omega arith)
 
 returns-3 : tie.Need-returns-3
 unfolding hourOf

@@ -1,10 +1,14 @@
--- `meter::weigh` meets its contract: each arm knows the two values' cases.
+-- `hour::weigh` meets its contract: each arm knows the two values' cases.
 -- Assumes nothing.
+use mathlib.Core.Path.{ap, _∙_}
 use native.Mathlib.Omega.{arith}
+use Rattle.units.specs.Grams.{methane}
+use Rattle.gaps.specs.Series.{amount}
 use Rattle.gaps.proofs.Sizes.{amount-of}
+use Rattle.hour.proofs.Weighing.{no-flow, no-content}
 use borrow.Author.Needs.{needs}
-use Rattle.meter.proofs.weigh.Statement.{statement}
-use Rattle.meter.proofs.weigh.Tie as tie
+use Rattle.hour.proofs.weigh.Statement.{statement}
+use Rattle.hour.proofs.weigh.Tie as tie
 
 enum-known-flow : tie.Need-enum-known-flow
 enum-known-flow c = search needs
@@ -32,13 +36,20 @@ of-grams-requires-2 : tie.Need-of-grams-requires-2
 of-grams-requires-2 c κs = search needs
 
 returns : tie.Need-returns
+unfolding amount
 returns c = rw (c .before .before .before .before .before .flow .given .1, c .before .before .content .given .1) (c .grams .ensures)
 
 returns-2 : tie.Need-returns-2
-returns-2 c = rw (c .before .before .before .before .flow .given .1, c .before .enum-told .given .1) (c .of-grams .ensures)
+unfolding amount
+returns-2 c =
+    let a = c .before .before .before .before .before .before .args in
+    rw (c .before .enum-told .given .1) (c .of-grams .ensures ∙ ap methane (no-content (a .kind) (amount (a .flow))))
 
 returns-3 : tie.Need-returns-3
-returns-3 c = rw (c .before .enum-told2 .given .1) (c .of-grams2 .ensures)
+unfolding amount
+returns-3 c =
+    let a = c .before .before .before .args in
+    rw (c .before .enum-told2 .given .1) (c .of-grams2 .ensures ∙ ap methane (no-flow (a .kind) (amount (a .content))))
 
 pub weigh-spec : {M : Type 1} → statement M
 weigh-spec =

@@ -1,0 +1,63 @@
+-- An hour of a meter: what it recorded, and what of that was destroyed (01, "The meter month").
+use Prim.Native.Nat.{ℕ, _*_, _/_}
+use mathlib.Core.Bool.{Bool, true, false, _||_, cond}
+use mathlib.Core.List.{List}
+use lib.Dec.{ltb}
+use lib.Ieee.{Float}
+use Rattle.units.specs.Grams.{density, shareOf}
+use Rattle.reading.specs.declared.Measure.{Measure}
+use Rattle.reading.specs.declared.Measure.the-variants.{Whole, TurnedDown}
+use Rattle.reading.specs.declared.hour.Reading.{Reading}
+use Rattle.reading.specs.declared.hour.Reading.the-variants.{Both, NoFlow, NoContent, Neither}
+use Rattle.reading.specs.Exact.{litresOf, hundredthsOf}
+use Rattle.reading.specs.Hour.{isOut, stateAt, readingAt}
+use Rattle.gaps.specs.declared.Value.{Value}
+use Rattle.gaps.specs.declared.Value.the-variants.{Recorded, Missing}
+use Rattle.gaps.specs.Series.{amount, isRecorded}
+use Rattle.hour.specs.declared.Hour.{Hour}
+use Rattle.hour.specs.declared.Hour.the-variants.{Taken, Refused}
+use Rattle.hour.specs.declared.Kind.{Kind}
+use Rattle.hour.specs.declared.Kind.the-variants.{CubicMetres}
+
+-- a value that is present is recorded, or, where it is turned down, has its hour refused
+abbrev pub taking : Measure → (Value → Hour) → Hour
+taking (Whole n) hour = hour (Recorded n)
+taking TurnedDown hour = Refused
+
+-- the flow in litres and the content in hundredths of a per cent, each where the reading has it
+unfoldable pub recordedOf : Reading → Hour
+recordedOf (Both flow content) = taking (litresOf flow) (λ litres. taking (hundredthsOf content) (Taken litres))
+recordedOf (NoFlow content) = taking (hundredthsOf content) (Taken Missing)
+recordedOf (NoContent flow) = taking (litresOf flow) (λ litres. Taken litres Missing)
+recordedOf Neither = Taken Missing Missing
+
+-- hour h of a month, device out or not; a state above 7 has it refused too (01, "Refusal numbers", 11)
+unfoldable pub hourAt : List Float → List Float → List ℕ → ℕ → Hour
+hourAt flows contents states h = cond (ltb 7 (stateAt states h)) Refused (recordedOf (readingAt flows contents states h))
+
+abbrev pub isRefused : Hour → Bool
+isRefused (Taken flow content) = false
+isRefused Refused = true
+
+-- the flow that an hour recorded, and its content
+abbrev pub flowOf : Hour → Value
+flowOf (Taken flow content) = flow
+flowOf Refused = Missing
+
+abbrev pub contentOf : Hour → Value
+contentOf (Taken flow content) = content
+contentOf Refused = Missing
+
+-- grams of methane in a flow of some content, rounded down: a litre of it weighs 0.68 grams (house)
+unfoldable pub gramsIn : Kind → ℕ → ℕ → ℕ
+gramsIn CubicMetres litres hundredths = litres * hundredths * density / 1000000
+
+abbrev pub wholeEfficiency : ℕ
+wholeEfficiency = 10000
+
+-- destroyed, of the two that the hour recorded and the two after filling: 0 where the device was out, or where neither was recorded. One
+-- that is still missing after filling counts 0, and so does the hour.
+unfoldable pub hourOf : Kind → ℕ → ℕ → Value → Value → Value → Value → ℕ
+hourOf kind efficiency state f c flow content =
+    cond (isOut state) 0
+    (cond (isRecorded f || isRecorded c) (shareOf (gramsIn kind (amount flow) (amount content)) efficiency wholeEfficiency) 0)
