@@ -14,7 +14,8 @@ use Rattle.units.specs.declared.solids.Solids.{Solids}
 use Rattle.calendar.specs.Days.{monthsInYear}
 use Rattle.lagoon.proofs.Conserved.{conserved, entered-at-most}
 use Rattle.lagoon.specs.Asks.{enteredMost, RunFits}
-use Rattle.lagoon.specs.Month.{million, emptyOf}
+use Rattle.factor.specs.Rule.{million}
+use Rattle.lagoon.specs.Month.{emptyOf}
 use Rattle.lagoon.specs.Run.{runFrom, runOf, after, yearOf, monthsOf}
 use Rattle.lagoon.specs.declared.Standing.{Standing}
 use Rattle.lagoon.specs.declared.Totals.{Totals}

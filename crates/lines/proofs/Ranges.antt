@@ -8,7 +8,7 @@ use Rattle.calendar.proofs.Range as calendar
 use Rattle.factor.proofs.Right as factor
 use Rattle.lagoon.proofs.Entry.{entered-most}
 use Rattle.lagoon.specs.Asks.{enteredMost}
-use Rattle.lagoon.specs.Month.{million}
+use Rattle.factor.specs.Rule.{million}
 use Rattle.keys.specs.Table.{lines, categories, months}
 use Rattle.book.specs.Valid.{Valid}
 use Rattle.slots.proofs.Ranges.{head-in, numbers-in}

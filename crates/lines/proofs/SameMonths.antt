@@ -6,7 +6,8 @@ use native.Mathlib.Omega.{arith}
 use Rattle.laws.proofs.Counting.{Each}
 use Rattle.lagoon.proofs.Conserved.{conserved, entered-at-most}
 use Rattle.lagoon.specs.Asks.{enteredMost}
-use Rattle.lagoon.specs.Month.{million, emptyOf}
+use Rattle.factor.specs.Rule.{million}
+use Rattle.lagoon.specs.Month.{emptyOf}
 use Rattle.lagoon.specs.Run.{runFrom, runOf, after, yearOf}
 use Rattle.lagoon.specs.declared.Month.{Month}
 use Rattle.lagoon.specs.declared.Standing.{Standing}

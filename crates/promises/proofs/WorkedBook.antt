@@ -1,5 +1,5 @@
 -- The book of 01's worked example ("Figures to check"), another where device 1 destroyed nothing, and what stands in each slot that their first year
--- looks at. Assumes nothing.
+-- looks at, and where the second finds nothing. Assumes nothing.
 use Prim.Native.Nat.{ℕ, suc, _-_}
 use mathlib.Core.Bool.{Bool, true, false, cond, _&&_}
 use mathlib.Core.List.{List, [], _∷_}
@@ -40,6 +40,7 @@ pub record Stands (book : List ℕ) (destroyed : Bool) : Type 0 where
   pub second-device : Each monthsInYear (λ m. recordAt book (slotOf mt (m ∷ 2 ∷ [])) ≡ none)
   pub third-device : Each monthsInYear (λ m. recordAt book (slotOf mt (m ∷ 3 ∷ [])) ≡ none)
   pub fourth-device : Each monthsInYear (λ m. recordAt book (slotOf mt (m ∷ 4 ∷ [])) ≡ none)
+  pub month-after : recordAt book (slotOf tp (suc monthsInYear ∷ [])) ≡ none
 
 -- one test of a slot, in both books
 alike : List ℕ → List ℕ → Bool
@@ -101,4 +102,5 @@ module _ (destroyed : Bool) where
         second-device = stands-each monthsInYear (λ m. slotOf mt (m ∷ 2 ∷ [])) (λ b m. none) tt;
         third-device = stands-each monthsInYear (λ m. slotOf mt (m ∷ 3 ∷ [])) (λ b m. none) tt;
         fourth-device = stands-each monthsInYear (λ m. slotOf mt (m ∷ 4 ∷ [])) (λ b m. none) tt;
+        month-after = stands (slotOf tp (suc monthsInYear ∷ [])) (λ b. none) tt;
       }

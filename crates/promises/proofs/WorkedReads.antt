@@ -120,7 +120,7 @@ module _ (book : List ℕ) (destroyed : Bool) (s : Stands book destroyed) where
     counted-by l true e = ap (uncounted book m) e ∙ ap (λ (h : Seen). not (filled h)) head-is
     counted-by l false e = ap (uncounted book m) e
 
-    counted : headless book m ≡ false
+    pub counted : headless book m ≡ false
     unfolding headless
     counted =
         none-passes lines (λ l. uncounted book m (categoryOf book l))
@@ -129,7 +129,7 @@ module _ (book : List ℕ) (destroyed : Bool) (s : Stands book destroyed) where
     lacks-nothing : lacks book firstYear m ≡ false
     lacks-nothing = sym (lacks-project book firstYear m (ap unmeasured temperature-is) counted (omega arith) (sym (ap filled (project-is .0))))
 
-  lined : anyLine book ≡ true
+  pub lined : anyLine book ≡ true
   unfolding anyLine
   lined =
       let test : ℕ → Bool = λ l. filled (categoryOf book l) in

@@ -35,26 +35,12 @@ use Rattle.lines.specs.Lines.{anaerobicOf, otherOf, bySystem, nothing, headsOf,
 use Rattle.year.specs.declared.Figures.{Figures}
 use Rattle.lines.specs.declared.Sums.{Sums}
 use Rattle.lines.proofs.SameMonths.{same-year}
+use Rattle.text.proofs.Worked.{worked}
 use Rattle.promises.proofs.Promise.{Answered}
 use Rattle.promises.proofs.Records as Records
 use Rattle.promises.proofs.Records.{lineRecord}
 use Rattle.promises.proofs.WorkedBook.{none, made, Stands, made-stands}
 use Rattle.promises.proofs.WorkedReads.{theLine, year-is, month-is, system-by, line-is, head-is, temperature-is, drained-is, project-is, first-is, none-is, complete-is, shares-are}
-
--- 01's figures
-abbrev pub worked : Figures
-worked =
-    record {
-      entered = solids 175200000;
-      degraded = solids 175200000;
-      removed = solids 0;
-      carried = solids 0;
-      baseline = co2e 600445440;
-      project = co2e 12000000;
-      metered = co2e 504000000;
-      net = pos 498;
-      credited = 498;
-    }
 
 -- a month of the line, what the operator entered for a month, and the year's sums
 abbrev month : Solids → ℕ → Bool → Month

@@ -10,7 +10,7 @@ use Rattle.page.specs.Number.{word, lastDigits, decimal, signed}
 use Rattle.page.specs.Line.{refusalLine}
 use Rattle.text.specs.Lines.{yearLine, solidsLine, gramsLine, tonnesLine, yearLines, answerLines}
 
-abbrev worked : Figures
+abbrev pub worked : Figures
 worked =
     record {
       entered = solids 175200000;
