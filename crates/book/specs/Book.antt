@@ -1,17 +1,11 @@
 -- The book, and what posting a record does to it (01, "The records", "Refusal numbers"): sixteen bytes a slot, all 0 in a slot that is not filled.
 -- Assumes nothing.
 use Prim.Native.Nat.{ℕ, _+_, _*_}
-use mathlib.Core.Bool.{Bool, cond}
-use mathlib.Core.List.{List, _++_}
-use lib.Dec.{eqb}
-use lib.ListN.{getD, take, drop, replicate}
-use Rattle.keys.specs.Number.{recordBytes}
-use Rattle.keys.specs.Slot.{slots}
-use Rattle.records.specs.Record.{judged}
-use Rattle.records.specs.declared.Judged.{Judged}
-use Rattle.records.specs.declared.Judged.the-variants.{Wrong, Fill}
-use Rattle.book.specs.declared.Posted.{Posted}
-use Rattle.book.specs.declared.Posted.the-variants.{Taken, Refused}
+use mathlib.Core.{Bool.Bool, Bool.cond, List.List, List._++_}
+use lib.{Dec.eqb, ListN.getD, ListN.take, ListN.drop, ListN.replicate}
+use Rattle.keys.specs.{Number.recordBytes, Slot.slots}
+use Rattle.records.specs.{Record.judged, declared.Judged.Judged, declared.Judged.the-variants.Wrong, declared.Judged.the-variants.Fill}
+use Rattle.book.specs.declared.Posted.{Posted, the-variants.Taken, the-variants.Refused}
 
 abbrev pub bookBytes : ℕ
 bookBytes = slots * recordBytes

@@ -5,8 +5,7 @@ use mathlib.Core.List.{List, [], _∷_}
 use lib.ListN.{length}
 use Rattle.keys.specs.Number.{recordBytes}
 use Rattle.book.specs.Book.{recordAt, answerOf, bookAfter}
-use Rattle.book.specs.declared.Posted.{Posted}
-use Rattle.book.specs.declared.Posted.the-variants.{Taken, Refused}
+use Rattle.book.specs.declared.Posted.{Posted, the-variants.Taken, the-variants.Refused}
 
 -- n records from number k on; and all of them, the last of which may be shorter
 unfoldable pub recordsFrom : List ℕ → ℕ → ℕ → List (List ℕ)

@@ -1,14 +1,10 @@
 -- What a book is (01, "The records"): what postings make from the empty one; and that by its slots: each is empty or holds a record that posting takes.
 -- Assumes nothing.
 use Prim.Native.Nat.{ℕ, _<_}
-use mathlib.Core.List.{List}
-use mathlib.Core.Logic.{_⊎_}
-use mathlib.Core.Path.{_≡_}
+use mathlib.Core.{List.List, Logic._⊎_, Path._≡_}
 use lib.ListN.{length, replicate}
-use Rattle.keys.specs.Number.{recordBytes}
-use Rattle.keys.specs.Slot.{slots}
-use Rattle.records.specs.Record.{judged}
-use Rattle.records.specs.declared.Judged.the-variants.{Fill}
+use Rattle.keys.specs.{Number.recordBytes, Slot.slots}
+use Rattle.records.specs.{Record.judged, declared.Judged.the-variants.Fill}
 use Rattle.book.specs.Book.{bookBytes, recordAt, bookAfter, emptyBook}
 
 pub data Made : List ℕ → Type 0 where

@@ -1,26 +1,15 @@
 -- What a C caller is handed for each answer: 01's number and place beside the figures. Number 0 says that nothing was refused; a refusal
 -- gives number and place, and no figures (01, "Refusal numbers").
 use Prim.Native.Nat.{ℕ}
-use mathlib.Core.Bool.{Bool, true, false, cond}
-use mathlib.Core.List.{List}
-use lib.Dec.{eqb}
-use lib.IntN.{pos}
-use lib.ListN.{length}
+use mathlib.Core.{Bool.Bool, Bool.true, Bool.false, Bool.cond, List.List}
+use lib.{Dec.eqb, IntN.pos, ListN.length}
 use Rattle.book.specs.Book.{bookBytes, emptyBook}
-use Rattle.book.specs.declared.Posted.{Posted}
-use Rattle.book.specs.declared.Posted.the-variants.{Taken, Refused as RefusedRecord}
+use Rattle.book.specs.declared.Posted.{Posted, the-variants.Taken, the-variants.Refused as RefusedRecord}
 use Rattle.units.specs.Grams.{solids, co2e}
-use Rattle.year.specs.declared.Answer.{Answer}
-use Rattle.year.specs.declared.Answer.the-variants.{Stated, Refused as RefusedYear}
-use Rattle.year.specs.declared.Figures.{Figures}
-use Rattle.meter.specs.declared.MonthAnswer.{MonthAnswer}
-use Rattle.meter.specs.declared.MonthAnswer.the-variants.{Destroyed, Refused as RefusedMonth}
-use Rattle.reading.specs.declared.Measure.{Measure}
-use Rattle.reading.specs.declared.Measure.the-variants.{Whole, TurnedDown}
-use Rattle.cabinet.specs.declared.CabinetPosted.{CabinetPosted}
-use Rattle.cabinet.specs.declared.CabinetYear.{CabinetYear}
-use Rattle.cabinet.specs.declared.CabinetMonth.{CabinetMonth}
-use Rattle.cabinet.specs.declared.CabinetReading.{CabinetReading}
+use Rattle.year.specs.declared.{Answer.Answer, Answer.the-variants.Stated, Answer.the-variants.Refused as RefusedYear, Figures.Figures}
+use Rattle.meter.specs.declared.MonthAnswer.{MonthAnswer, the-variants.Destroyed, the-variants.Refused as RefusedMonth}
+use Rattle.reading.specs.declared.Measure.{Measure, the-variants.Whole, the-variants.TurnedDown}
+use Rattle.cabinet.specs.declared.{CabinetPosted.CabinetPosted, CabinetYear.CabinetYear, CabinetMonth.CabinetMonth, CabinetReading.CabinetReading}
 
 -- lent memory of a book's size
 abbrev pub sized : List ℕ → Bool

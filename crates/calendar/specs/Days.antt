@@ -1,9 +1,7 @@
 -- The Gregorian days of the months that a book counts (01, "The records" and "The lagoon month").
 use Prim.Native.Nat.{ℕ, _+_, _-_, _/_, _%_}
-use mathlib.Core.Bool.{Bool, cond, not, _&&_, _||_}
-use mathlib.Core.List.{List, [], _∷_}
-use lib.Dec.{eqb}
-use lib.ListN.{getD}
+use mathlib.Core.{Bool.Bool, Bool.cond, Bool.not, Bool._&&_, Bool._||_, List.List, List.[], List._∷_}
+use lib.{Dec.eqb, ListN.getD}
 
 -- the months of a year
 abbrev pub monthsInYear : ℕ

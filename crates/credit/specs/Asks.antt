@@ -1,7 +1,6 @@
 -- What the functions ask of their callers, so that no product or sum passes 64 bits. They say nothing of what the figures are.
 use Prim.Native.Nat.{ℕ, _<_, _^_}
-use Rattle.credit.specs.Credit.{meteredOf}
-use Rattle.credit.specs.declared.Operator.{Operator}
+use Rattle.credit.specs.{Credit.meteredOf, declared.Operator.Operator}
 
 -- what a year's sums and the operator's figures stay below
 abbrev pub sumsMost : ℕ

@@ -1,17 +1,12 @@
 -- The year's credit: what the operator entered, the lesser of modelled and metered, and the total (01, "The year"; Equations 5.1, 5.10).
 use Prim.Native.Nat.{ℕ, zero, suc, _+_, _*_}
-use mathlib.Core.Bool.{cond}
-use mathlib.Core.List.{List}
-use lib.IntN.{ℤ, pos, _+ℤ_, _-ℤ_}
-use lib.Signed.{leZ}
+use mathlib.Core.{Bool.cond, List.List}
+use lib.{IntN.ℤ, IntN.pos, IntN._+ℤ_, IntN._-ℤ_, Signed.leZ}
 use Rattle.laws.specs.Counting.{sum}
-use Rattle.units.specs.Grams.{methane, co2e, potential, warmingOf}
-use Rattle.units.specs.declared.co2e.Co2e.{Co2e}
-use Rattle.units.specs.declared.methane.Methane.{Methane}
+use Rattle.units.specs.{Grams.methane, Grams.co2e, Grams.potential, Grams.warmingOf, declared.co2e.Co2e.Co2e, declared.methane.Methane.Methane}
 use Rattle.calendar.specs.Days.{monthsInYear}
 use Rattle.keys.specs.Table.{devices}
-use Rattle.slots.specs.Reads.{projectMethaneOf, baselineCo2Of, projectCo2Of, destroyedOf}
-use Rattle.slots.specs.declared.Seen.{Seen}
+use Rattle.slots.specs.{Reads.projectMethaneOf, Reads.baselineCo2Of, Reads.projectCo2Of, Reads.destroyedOf, declared.Seen.Seen}
 use Rattle.months.specs.Series.{amountOf, monthsBefore}
 use Rattle.credit.specs.declared.Operator.{Operator}
 

@@ -2,8 +2,7 @@
 -- sixteen are enough: the number is right by the rule, and no other is (proofs/Right.antt).
 use Prim.Native.Nat.{ℕ, _*_, _-_, _/_}
 use mathlib.Core.Bool.{cond}
-use lib.IntN.{ℤ, pos, natAbs}
-use lib.Signed.{ltZ}
+use lib.{IntN.ℤ, IntN.pos, IntN.natAbs, Signed.ltZ}
 use Rattle.factor.specs.Rule.{million, denominator, added, subtracted, yNumerator, yDenominator, coldEnd, coldFactor, hotEnd}
 
 abbrev pub terms : ℕ

@@ -1,11 +1,8 @@
 -- The temperature factor, by the rule (01, "The lagoon month"): the series for exp(-p/q) in whole numbers, and what its partial sums say of a factor.
 -- Term k is p^k / (q^k k!), from term 0 on; the terms are added and subtracted in turn, the first being added.
 use Prim.Native.Nat.{ℕ, zero, suc, _+_, _*_, _-_, _^_, _%_, _≤_, _<_}
-use mathlib.Core.Bool.{Bool, true, false, cond}
-use mathlib.Core.Path.{_≡_}
-use lib.Dec.{eqb}
-use lib.IntN.{ℤ, pos, natAbs}
-use lib.Signed.{ltZ}
+use mathlib.Core.{Bool.Bool, Bool.true, Bool.false, Bool.cond, Path._≡_}
+use lib.{Dec.eqb, IntN.ℤ, IntN.pos, IntN.natAbs, Signed.ltZ}
 
 -- factors are counted in millionths
 abbrev pub million : ℕ

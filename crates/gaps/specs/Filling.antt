@@ -3,9 +3,7 @@ use Prim.Native.Nat.{ℕ, zero, suc, _+_, _-_, _*_, _/_}
 use mathlib.Core.Bool.{_&&_, cond}
 use lib.Dec.{leb, ltb}
 use Rattle.laws.specs.Counting.{firstFrom}
-use Rattle.gaps.specs.Series.{isRecorded}
-use Rattle.gaps.specs.declared.Value.{Value}
-use Rattle.gaps.specs.declared.Value.the-variants.{Recorded, Missing}
+use Rattle.gaps.specs.{Series.isRecorded, declared.Value.Value, declared.Value.the-variants.Recorded, declared.Value.the-variants.Missing}
 
 -- the first hour of the run of missing hours that ends at h: each hour from it up to h is missing, and the hour before it is not
 unfoldable pub startOf : (ℕ → Value) → ℕ → ℕ

@@ -1,10 +1,8 @@
 -- A month's series: each hour, from 0, recorded a whole number, or nothing. It stands in an array, and past the array's end nothing is recorded.
 use Prim.Native.Nat.{ℕ, zero, suc, _≤_, _<_, _^_}
-use mathlib.Core.Bool.{Bool, true, false}
-use mathlib.Core.List.{List}
+use mathlib.Core.{Bool.Bool, Bool.true, Bool.false, List.List}
 use lib.ListN.{getD}
-use Rattle.gaps.specs.declared.Value.{Value}
-use Rattle.gaps.specs.declared.Value.the-variants.{Recorded, Missing}
+use Rattle.gaps.specs.declared.Value.{Value, the-variants.Recorded, the-variants.Missing}
 
 abbrev pub isRecorded : Value → Bool
 isRecorded (Recorded n) = true

@@ -1,23 +1,13 @@
 -- An hour of a meter: what it recorded, and what of that was destroyed (01, "The meter month").
 use Prim.Native.Nat.{ℕ, _*_, _/_}
-use mathlib.Core.Bool.{Bool, true, false, _||_, cond}
-use mathlib.Core.List.{List}
-use lib.Dec.{ltb}
-use lib.Ieee.{Float}
+use mathlib.Core.{Bool.Bool, Bool.true, Bool.false, Bool._||_, Bool.cond, List.List}
+use lib.{Dec.ltb, Ieee.Float}
 use Rattle.units.specs.Grams.{density, shareOf}
-use Rattle.reading.specs.declared.Measure.{Measure}
-use Rattle.reading.specs.declared.Measure.the-variants.{Whole, TurnedDown}
-use Rattle.reading.specs.declared.hour.Reading.{Reading}
-use Rattle.reading.specs.declared.hour.Reading.the-variants.{Both, NoFlow, NoContent, Neither}
-use Rattle.reading.specs.Exact.{litresOf, hundredthsOf}
-use Rattle.reading.specs.Hour.{isOut, stateAt, readingAt}
-use Rattle.gaps.specs.declared.Value.{Value}
-use Rattle.gaps.specs.declared.Value.the-variants.{Recorded, Missing}
-use Rattle.gaps.specs.Series.{amount, isRecorded}
-use Rattle.hour.specs.declared.Hour.{Hour}
-use Rattle.hour.specs.declared.Hour.the-variants.{Taken, Refused}
-use Rattle.hour.specs.declared.Kind.{Kind}
-use Rattle.hour.specs.declared.Kind.the-variants.{CubicMetres}
+use Rattle.reading.specs.{Exact.litresOf, Exact.hundredthsOf, Hour.isOut, Hour.stateAt, Hour.readingAt}
+use Rattle.reading.specs.declared.Measure.{Measure, the-variants.Whole, the-variants.TurnedDown}
+use Rattle.reading.specs.declared.hour.Reading.{Reading, the-variants.Both, the-variants.NoFlow, the-variants.NoContent, the-variants.Neither}
+use Rattle.gaps.specs.{declared.Value.Value, declared.Value.the-variants.Recorded, declared.Value.the-variants.Missing, Series.amount, Series.isRecorded}
+use Rattle.hour.specs.declared.{Hour.Hour, Hour.the-variants.Taken, Hour.the-variants.Refused, Kind.Kind, Kind.the-variants.CubicMetres}
 
 -- a value that is present is recorded, or, where it is turned down, has its hour refused
 abbrev pub taking : Measure → (Value → Hour) → Hour

@@ -1,7 +1,6 @@
 -- What the meter's functions ask of the numbers of an hour, so that no product or sum passes 64 bits.
 use Prim.Native.Nat.{ℕ}
-use Rattle.hour.specs.declared.Kind.{Kind}
-use Rattle.hour.specs.declared.Kind.the-variants.{CubicMetres}
+use Rattle.hour.specs.declared.Kind.{Kind, the-variants.CubicMetres}
 
 -- the largest flow of an hour: 100,000 cubic metres, in litres
 abbrev pub mostFlow : Kind → ℕ

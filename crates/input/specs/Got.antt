@@ -1,8 +1,7 @@
 -- What a read gives. Of the bytes themselves no contract of the system's can speak. Assumes nothing.
 use Prim.Native.Nat.{ℕ, _≤_, min}
 use lib.IntN.{ℤ, pos, negsuc}
-use Rattle.input.specs.declared.Got.{Got}
-use Rattle.input.specs.declared.Got.the-variants.{Bytes, Failed}
+use Rattle.input.specs.declared.Got.{Got, the-variants.Bytes, the-variants.Failed}
 
 -- what a read's answer says, into so many bytes of room: below 0 it failed, and 0 is the end of the input
 abbrev pub gotBy : ℤ → ℕ → Got

@@ -1,8 +1,6 @@
 -- What the functions ask of their callers, so that no product or sum passes 64 bits. They say nothing of what the figures are.
 use Prim.Native.Nat.{ℕ, _+_, _*_, _≤_, _<_, _^_}
-use mathlib.Core.Bool.{Bool}
-use mathlib.Core.List.{List}
-use mathlib.Core.Path.{_≡_}
+use mathlib.Core.{Bool.Bool, List.List, Path._≡_}
 use lib.ListN.{length, getD}
 use Rattle.factor.specs.Rule.{million}
 use Rattle.lagoon.specs.declared.Standing.{Standing}

@@ -1,12 +1,9 @@
 -- The lagoon month (01, "The lagoon month"; Equation 5.3): whole grams of volatile solids, rounded down at each stated division.
 use Prim.Native.Nat.{ℕ, _+_, _*_, _-_, _/_}
 use mathlib.Core.Bool.{cond}
-use Rattle.units.specs.declared.solids.Solids.{Solids}
-use Rattle.units.specs.Grams.{solids, shareOf}
+use Rattle.units.specs.{declared.solids.Solids.Solids, Grams.solids, Grams.shareOf}
 use Rattle.factor.specs.Rule.{million}
-use Rattle.lagoon.specs.declared.Month.{Month}
-use Rattle.lagoon.specs.declared.Outcome.{Outcome}
-use Rattle.lagoon.specs.declared.Standing.{Standing}
+use Rattle.lagoon.specs.declared.{Month.Month, Outcome.Outcome, Standing.Standing}
 
 -- entered: 8 tenths are the protocol's calibration; the rest of the divisor brings the fields' units to grams
 unfoldable pub enteredOf : ℕ → ℕ → ℕ → ℕ → ℕ → Solids

@@ -1,15 +1,11 @@
 -- A run of months (01, "The lagoon month"): each month starts from the standing that the month before handed on. Months are numbered from 1, and
 -- `months m` are the figures of month m.
 use Prim.Native.Nat.{ℕ, zero, suc, _+_, _*_, _-_}
-use mathlib.Core.Bool.{Bool, false}
-use mathlib.Core.List.{List}
+use mathlib.Core.{Bool.Bool, Bool.false, List.List}
 use lib.ListN.{getD}
 use Rattle.units.specs.Grams.{solids}
 use Rattle.calendar.specs.Days.{monthsInYear}
-use Rattle.lagoon.specs.declared.Month.{Month}
-use Rattle.lagoon.specs.declared.Standing.{Standing}
-use Rattle.lagoon.specs.declared.Totals.{Totals}
-use Rattle.lagoon.specs.Month.{emptyOf, outcomeOf}
+use Rattle.lagoon.specs.{declared.Month.Month, declared.Standing.Standing, declared.Totals.Totals, Month.emptyOf, Month.outcomeOf}
 
 -- no month yet
 abbrev pub startOf : Standing → Totals

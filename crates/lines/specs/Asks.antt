@@ -1,11 +1,9 @@
 -- What the functions hand each other from year to year, and what they ask so that no sum passes 64 bits. They say nothing of what the figures are.
 use Prim.Native.Nat.{ℕ, zero, suc, _+_, _-_, _≤_}
-use mathlib.Core.List.{List}
-use mathlib.Core.Path.{_≡_}
+use mathlib.Core.{List.List, Path._≡_}
 use lib.ListN.{length, getD}
 use Rattle.keys.specs.Table.{lines}
-use Rattle.lines.specs.Lines.{lineIn}
-use Rattle.lines.specs.declared.Sums.{Sums}
+use Rattle.lines.specs.{Lines.lineIn, declared.Sums.Sums}
 
 -- what a line carries past a year, in grams; year 0 stands for the time before the first month, when nothing is carried
 unfoldable pub carriedBy : List ℕ → ℕ → ℕ → ℕ

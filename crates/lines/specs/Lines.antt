@@ -1,22 +1,14 @@
 -- A month of a line (01, "The lagoon month"), and the lines of a year: solids of the anaerobic ones, and the baseline of all (01, "The year"; Equations 5.3 and 5.4).
 use Prim.Native.Nat.{ℕ, zero, suc, _+_, _*_, _/_}
-use mathlib.Core.Bool.{Bool, true, cond}
-use mathlib.Core.List.{List}
+use mathlib.Core.{Bool.Bool, Bool.true, Bool.cond, List.List}
 use lib.Dec.{eqb}
 use Rattle.laws.specs.Counting.{sum}
-use Rattle.units.specs.Grams.{solids, co2e, shareOf, potential, b0RuleOf}
-use Rattle.units.specs.declared.co2e.Co2e.{Co2e}
-use Rattle.units.specs.declared.solids.Solids.{Solids}
+use Rattle.units.specs.{Grams.solids, Grams.co2e, Grams.shareOf, Grams.potential, Grams.b0RuleOf, declared.co2e.Co2e.Co2e, declared.solids.Solids.Solids}
 use Rattle.calendar.specs.Days.{monthsInYear}
-use Rattle.lagoon.specs.Month.{enteredOf}
-use Rattle.lagoon.specs.Run.{yearOf}
-use Rattle.lagoon.specs.declared.Month.{Month}
-use Rattle.lagoon.specs.declared.Totals.{Totals}
+use Rattle.lagoon.specs.{Month.enteredOf, Run.yearOf, declared.Month.Month, declared.Totals.Totals}
 use Rattle.keys.specs.Table.{lines}
 use Rattle.slots.specs.Reads.{systemOf, lineOf, headOf, drainedOf}
-use Rattle.slots.specs.declared.Line.{Line}
-use Rattle.slots.specs.declared.Seen.{Seen}
-use Rattle.slots.specs.declared.Seen.the-variants.{Nothing, Value}
+use Rattle.slots.specs.declared.{Line.Line, Seen.Seen, Seen.the-variants.Nothing, Seen.the-variants.Value}
 use Rattle.months.specs.Series.{amountOf, monthsBefore, daysAt, factorAt}
 use Rattle.lines.specs.declared.Sums.{Sums}
 

@@ -1,20 +1,14 @@
 -- The month of one meter (01, "The meter month", "Refusal numbers").
 use Prim.Native.Nat.{ℕ, _-_}
-use mathlib.Core.Bool.{Bool, not, _&&_, _||_, cond}
-use mathlib.Core.List.{List}
-use lib.Dec.{eqb, ltb}
-use lib.Ieee.{Float}
-use lib.ListN.{length}
+use mathlib.Core.{Bool.Bool, Bool.not, Bool._&&_, Bool._||_, Bool.cond, List.List}
+use lib.{Dec.eqb, Dec.ltb, Ieee.Float, ListN.length}
 use Rattle.laws.specs.Counting.{sum, firstFrom}
 use Rattle.units.specs.Grams.{methane}
 use Rattle.reading.specs.Hour.{stateAt}
-use Rattle.gaps.specs.declared.Value.{Value}
-use Rattle.gaps.specs.Filling.{filled}
-use Rattle.hour.specs.declared.Kind.{Kind}
-use Rattle.hour.specs.declared.Kind.the-variants.{CubicMetres}
+use Rattle.gaps.specs.{declared.Value.Value, Filling.filled}
 use Rattle.hour.specs.Hour.{hourAt, isRefused, flowOf, contentOf, hourOf, wholeEfficiency}
-use Rattle.meter.specs.declared.MonthAnswer.{MonthAnswer}
-use Rattle.meter.specs.declared.MonthAnswer.the-variants.{Destroyed, Refused}
+use Rattle.hour.specs.declared.Kind.{Kind, the-variants.CubicMetres}
+use Rattle.meter.specs.declared.MonthAnswer.{MonthAnswer, the-variants.Destroyed, the-variants.Refused}
 
 -- the sum over n hours, the k-th of which is hour k - 1, with these states, flows and contents as recorded, and flows and contents after filling
 unfoldable pub gramsOf : Kind → ℕ → (ℕ → ℕ) → (ℕ → Value) → (ℕ → Value) → (ℕ → Value) → (ℕ → Value) → ℕ → ℕ

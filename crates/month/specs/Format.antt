@@ -1,16 +1,10 @@
 -- A meter month as bytes, of any length. In order: the mark CM, the efficiency, the counts of flows, contents and states, two bytes each, the
 -- lower first; then the flows and the contents, four bytes each, and the states, a byte each.
-use Prim.Native.Nat.{ℕ, zero, suc, _+_, _*_}
-use Prim.Native.Char.{code}
-use mathlib.Core.Bool.{Bool, not, _&&_, cond}
-use mathlib.Core.List.{List, [], _∷_}
-use lib.Dec.{eqb, leb}
-use lib.Ieee.{Float, binary32, ofBits}
-use lib.ListN.{length, getD, drop}
+use Prim.Native.{Nat.ℕ, Nat.zero, Nat.suc, Nat._+_, Nat._*_, Char.code}
+use mathlib.Core.{Bool.Bool, Bool.not, Bool._&&_, Bool.cond, List.List, List.[], List._∷_}
+use lib.{Dec.eqb, Dec.leb, Ieee.Float, Ieee.binary32, Ieee.ofBits, ListN.length, ListN.getD, ListN.drop}
 use Rattle.keys.specs.Number.{numberAt}
-use Rattle.meter.specs.declared.MonthAnswer.{MonthAnswer}
-use Rattle.meter.specs.declared.MonthAnswer.the-variants.{Refused}
-use Rattle.meter.specs.Month.{monthOf}
+use Rattle.meter.specs.{declared.MonthAnswer.MonthAnswer, declared.MonthAnswer.the-variants.Refused, Month.monthOf}
 
 -- the input has a mark, and it is not CM
 abbrev pub isOtherMark : List ℕ → Bool

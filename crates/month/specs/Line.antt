@@ -2,8 +2,7 @@
 use Prim.Native.Nat.{ℕ}
 use mathlib.Core.List.{List, _++_}
 use Rattle.page.specs.Line.{newline, figure, refusalLine}
-use Rattle.meter.specs.declared.MonthAnswer.{MonthAnswer}
-use Rattle.meter.specs.declared.MonthAnswer.the-variants.{Destroyed, Refused}
+use Rattle.meter.specs.declared.MonthAnswer.{MonthAnswer, the-variants.Destroyed, the-variants.Refused}
 
 unfoldable pub destroyedLine : ℕ → List ℕ
 destroyedLine grams = figure "destroyed " grams ++ newline

@@ -1,7 +1,6 @@
 -- What the functions ask of their callers: a year of the period. And what the arrays hold that some answer: so many of a year's months of a series.
 use Prim.Native.Nat.{ℕ, _+_, _-_, _≤_}
-use mathlib.Core.List.{List}
-use mathlib.Core.Path.{_≡_}
+use mathlib.Core.{List.List, Path._≡_}
 use lib.ListN.{length, getD}
 use Rattle.calendar.specs.Days.{monthsInYear}
 use Rattle.months.specs.Series.{firstYear, lastYear}

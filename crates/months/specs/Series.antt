@@ -1,14 +1,11 @@
 -- What counts of a slot, the years of the crediting period, and what a book says of a month (01, "The records", "The lagoon month"). Months count from 1.
 use Prim.Native.Nat.{ℕ, _*_, _-_}
-use mathlib.Core.Bool.{Bool, true, false}
-use mathlib.Core.List.{List}
+use mathlib.Core.{Bool.Bool, Bool.true, Bool.false, List.List}
 use Rattle.calendar.specs.Days.{monthsInYear, daysOf}
 use Rattle.factor.specs.Factor.{factorOf}
 use Rattle.slots.specs.Reads.{firstYearOf, firstMonthOf, temperatureOf}
-use Rattle.slots.specs.declared.Seen.{Seen}
-use Rattle.slots.specs.declared.Seen.the-variants.{Nothing, Value}
-use Rattle.slots.specs.declared.Warmth.{Warmth}
-use Rattle.slots.specs.declared.Warmth.the-variants.{Unknown, Tenths}
+use Rattle.slots.specs.declared.Seen.{Seen, the-variants.Nothing, the-variants.Value}
+use Rattle.slots.specs.declared.Warmth.{Warmth, the-variants.Unknown, the-variants.Tenths}
 
 -- the slot was filled (01, "The records": one that was never filled is no value)
 abbrev pub filled : Seen → Bool

@@ -1,10 +1,7 @@
 -- What the functions hand each other to be worked out once. It says nothing of what a year lacks.
 use Prim.Native.Nat.{ℕ, _+_, _≤_}
-use mathlib.Core.Bool.{Bool, false}
-use mathlib.Core.List.{List}
-use mathlib.Core.Path.{_≡_}
-use lib.Dec.{eqb}
-use lib.ListN.{length, getD}
+use mathlib.Core.{Bool.Bool, Bool.false, List.List, Path._≡_}
+use lib.{Dec.eqb, ListN.length, ListN.getD}
 use Rattle.laws.specs.Counting.{sum, some}
 use Rattle.keys.specs.Table.{categories}
 use Rattle.slots.specs.Reads.{categoryOf, lineOf}

@@ -1,18 +1,14 @@
 -- Refusal 8: the year lacks a record that it needs (01, "Refusal numbers").
 use Prim.Native.Nat.{ℕ}
-use mathlib.Core.Bool.{Bool, true, false, cond, not, _&&_, _||_}
-use mathlib.Core.List.{List}
+use mathlib.Core.{Bool.Bool, Bool.true, Bool.false, Bool.cond, Bool.not, Bool._&&_, Bool._||_, List.List}
 use lib.Dec.{ltb, leb}
 use Rattle.laws.specs.Counting.{first, some}
 use Rattle.keys.specs.Table.{lines}
 use Rattle.slots.specs.Reads.{firstYearOf, categoryOf, headOf, temperatureOf, projectMethaneOf}
-use Rattle.slots.specs.declared.Seen.{Seen}
-use Rattle.slots.specs.declared.Seen.the-variants.{Nothing, Value}
-use Rattle.slots.specs.declared.Warmth.{Warmth}
-use Rattle.slots.specs.declared.Warmth.the-variants.{Unknown, Tenths}
+use Rattle.slots.specs.declared.Seen.{Seen, the-variants.Nothing, the-variants.Value}
+use Rattle.slots.specs.declared.Warmth.{Warmth, the-variants.Unknown, the-variants.Tenths}
 use Rattle.months.specs.Series.{filled, monthsBefore, monthsThrough}
-use Rattle.needs.specs.declared.complete.Completeness.{Completeness}
-use Rattle.needs.specs.declared.complete.Completeness.the-variants.{Complete, Lacking}
+use Rattle.needs.specs.declared.complete.Completeness.{Completeness, the-variants.Complete, the-variants.Lacking}
 
 -- there is a line
 unfoldable pub anyLine : List ℕ → Bool

@@ -1,12 +1,10 @@
 -- Refusal 7: the shares of one category sum above the whole (01, "Refusal numbers").
 use Prim.Native.Nat.{ℕ}
-use mathlib.Core.Bool.{cond}
-use mathlib.Core.List.{List}
+use mathlib.Core.{Bool.cond, List.List}
 use lib.Dec.{eqb, ltb}
 use Rattle.laws.specs.Counting.{sum, first}
 use Rattle.keys.specs.Table.{lines, categories}
-use Rattle.slots.specs.Reads.{lineOf}
-use Rattle.slots.specs.declared.Line.{Line}
+use Rattle.slots.specs.{Reads.lineOf, declared.Line.Line}
 
 -- shares count ten-thousandths
 abbrev pub wholeShare : ℕ

@@ -1,6 +1,5 @@
 -- What every program prints (01, "Figures to check"): words with figures after them, and the line of a refusal. Assumes nothing.
-use Prim.Native.Nat.{ℕ}
-use Prim.Native.String.{String}
+use Prim.Native.{Nat.ℕ, String.String}
 use mathlib.Core.List.{List, _++_}
 use Rattle.page.specs.Number.{word, decimal}
 

@@ -1,12 +1,8 @@
 -- A figure as text: decimal, with a minus sign where it is below 0 (01, "Figures to check"). A text is the list of its bytes.
 -- Assumes nothing.
-use Prim.Native.Nat.{ℕ, zero, suc, _+_, _/_, _%_}
-use Prim.Native.Char.{code}
-use Prim.Native.String.{String, [] as none, _∷_ as _then_}
-use mathlib.Core.Bool.{cond}
-use mathlib.Core.List.{List, [], _∷_, _++_}
-use lib.Dec.{ltb}
-use lib.IntN.{ℤ, pos, negsuc}
+use Prim.Native.{Nat.ℕ, Nat.zero, Nat.suc, Nat._+_, Nat._/_, Nat._%_, Char.code, String.String, String.[] as none, String._∷_ as _then_}
+use mathlib.Core.{Bool.cond, List.List, List.[], List._∷_, List._++_}
+use lib.{Dec.ltb, IntN.ℤ, IntN.pos, IntN.negsuc}
 
 -- the bytes of a word of ASCII letters
 abbrev pub word : String → List ℕ

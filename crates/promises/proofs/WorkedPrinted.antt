@@ -13,7 +13,6 @@ use Rattle.calendar.specs.Days.{monthsInYear}
 use Rattle.keys.specs.Table.{tp}
 use Rattle.keys.specs.Number.{signedOf}
 use Rattle.keys.specs.Slot.{slotOf}
-use Rattle.slots.specs.Entries.{temperature}
 use Rattle.slots.specs.Field.{numberOf}
 use Rattle.slots.specs.Reads.{temperatureOf}
 use Rattle.slots.specs.declared.Warmth.the-variants.{Tenths, Unknown}
@@ -52,7 +51,7 @@ secondYear = 2
 module _ (book : List ℕ) (destroyed : Bool) (s : Stands book destroyed) where
   unmeasured-month : unmeasured (temperatureOf book (suc monthsInYear)) ≡ true
   unmeasured-month =
-      ap (λ (b : Bool). unmeasured (cond b (Tenths (signedOf (numberOf book tp (suc monthsInYear ∷ []) temperature))) Unknown))
+      ap (λ (b : Bool). unmeasured (cond b (Tenths (signedOf (numberOf book tp (suc monthsInYear ∷ []) 2))) Unknown))
       (filled-held book (slotOf tp (suc monthsInYear ∷ [])) (s .month-after))
 
   month-lacks : lacks book secondYear (suc monthsInYear) ≡ true

@@ -2,10 +2,8 @@
 -- fraction up e / down e.
 use Prim.Native.Nat.{ℕ, _*_, _/_}
 use mathlib.Core.Bool.{Bool, true, false, cond}
-use lib.Dec.{leb, eqb}
-use lib.Ieee.{Float, nan, inf, fin, up, down}
-use Rattle.reading.specs.declared.Measure.{Measure}
-use Rattle.reading.specs.declared.Measure.the-variants.{Whole, TurnedDown}
+use lib.{Dec.leb, Dec.eqb, Ieee.Float, Ieee.nan, Ieee.inf, Ieee.fin, Ieee.up, Ieee.down}
+use Rattle.reading.specs.declared.Measure.{Measure, the-variants.Whole, the-variants.TurnedDown}
 
 -- so many times the float's exact value, rounded down
 unfoldable pub timesDown : ℕ → Float → ℕ

@@ -1,12 +1,8 @@
 -- An hour's reading, by its state (01, "The meter month").
 use Prim.Native.Nat.{ℕ, _/_, _%_}
-use mathlib.Core.Bool.{Bool, cond}
-use mathlib.Core.List.{List}
-use lib.Dec.{eqb}
-use lib.Ieee.{Float, nan}
-use lib.ListN.{getD}
-use Rattle.reading.specs.declared.hour.Reading.{Reading}
-use Rattle.reading.specs.declared.hour.Reading.the-variants.{Both, NoFlow, NoContent, Neither}
+use mathlib.Core.{Bool.Bool, Bool.cond, List.List}
+use lib.{Dec.eqb, Ieee.Float, Ieee.nan, ListN.getD}
+use Rattle.reading.specs.declared.hour.Reading.{Reading, the-variants.Both, the-variants.NoFlow, the-variants.NoContent, the-variants.Neither}
 
 -- state 0: both present; 1: no flow; 2: no content; 3: neither. The 4 that is added when the device was out changes nothing here, and a
 -- missing value's bits are ignored.

@@ -1,17 +1,12 @@
 -- What posting finds in a record alone (01, "The records", "Refusal numbers"): refusals 1 to 4, or the slot of the record's key.
 -- Assumes nothing.
 use Prim.Native.Nat.{ℕ, zero, suc, _+_}
-use mathlib.Core.Bool.{Bool, cond, _&&_}
-use mathlib.Core.List.{List, [], _∷_}
-use lib.Dec.{eqb, ltb, leb}
-use lib.IntN.{pos, negℤ}
-use lib.ListN.{length, getD}
-use lib.Signed.{leZ}
+use mathlib.Core.{Bool.Bool, Bool.cond, Bool._&&_, List.List, List.[], List._∷_}
+use lib.{Dec.eqb, Dec.ltb, Dec.leb, IntN.pos, IntN.negℤ, ListN.length, ListN.getD, Signed.leZ}
 use Rattle.keys.specs.Table.{Range, from, unless, signed, Entry, zeros, field, Row, table, highestOf, entriesOf}
 use Rattle.keys.specs.Number.{recordBytes, afterMark, numberAt, signedOf}
 use Rattle.keys.specs.Slot.{slotOf}
-use Rattle.records.specs.declared.Judged.{Judged}
-use Rattle.records.specs.declared.Judged.the-variants.{Wrong, Fill}
+use Rattle.records.specs.declared.Judged.{Judged, the-variants.Wrong, the-variants.Fill}
 
 -- the place of what is not found: past the record's last byte
 abbrev pub nowhere : ℕ

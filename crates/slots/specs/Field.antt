@@ -1,15 +1,11 @@
 -- One field of one slot of a book: nothing where the slot was never filled, else its value, which may be 0 (01, "The records").
 -- Assumes nothing.
 use Prim.Native.Nat.{ℕ, _+_, _*_}
-use mathlib.Core.Bool.{Bool, cond, not}
-use mathlib.Core.List.{List, [], _∷_}
+use mathlib.Core.{Bool.Bool, Bool.cond, Bool.not, List.List, List.[], List._∷_}
 use lib.ListN.{take, drop}
-use Rattle.keys.specs.Table.{Entry, zeros, field, entriesOf}
-use Rattle.keys.specs.Number.{recordBytes, afterMark, numberAt}
-use Rattle.keys.specs.Slot.{slotOf}
+use Rattle.keys.specs.{Table.Entry, Table.zeros, Table.field, Table.entriesOf, Number.recordBytes, Number.afterMark, Number.numberAt, Slot.slotOf}
 use Rattle.book.specs.Book.{free}
-use Rattle.slots.specs.declared.Seen.{Seen}
-use Rattle.slots.specs.declared.Seen.the-variants.{Nothing, Value}
+use Rattle.slots.specs.declared.Seen.{Seen, the-variants.Nothing, the-variants.Value}
 
 -- the bytes of some entries; and the offset and the bytes of entry n of a row, counted from 0
 abbrev pub bytesIn : List Entry → ℕ

@@ -2,15 +2,10 @@
 -- The last number of each read says which entry of its row in 01's table it is, counted from 0, the bytes of the key and the zero bytes too.
 -- Assumes nothing.
 use Prim.Native.Nat.{ℕ}
-use mathlib.Core.Bool.{Bool, cond}
-use mathlib.Core.List.{List, [], _∷_}
-use Rattle.keys.specs.Table.{yr, ln, hd, tp, dr, pe, mt}
-use Rattle.keys.specs.Number.{signedOf}
+use mathlib.Core.{Bool.Bool, Bool.cond, List.List, List.[], List._∷_}
+use Rattle.keys.specs.{Table.yr, Table.ln, Table.hd, Table.tp, Table.dr, Table.pe, Table.mt, Number.signedOf}
 use Rattle.slots.specs.Field.{numberOf, seenOf, filledOf}
-use Rattle.slots.specs.declared.Line.{Line}
-use Rattle.slots.specs.declared.Seen.{Seen}
-use Rattle.slots.specs.declared.Warmth.{Warmth}
-use Rattle.slots.specs.declared.Warmth.the-variants.{Unknown, Tenths}
+use Rattle.slots.specs.declared.{Line.Line, Seen.Seen, Warmth.Warmth, Warmth.the-variants.Unknown, Warmth.the-variants.Tenths}
 
 -- YR
 abbrev pub firstYearOf : List ℕ → Seen

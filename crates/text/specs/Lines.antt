@@ -2,12 +2,9 @@
 use Prim.Native.Nat.{ℕ, zero, suc, _+_}
 use mathlib.Core.List.{List, [], _++_}
 use Rattle.months.specs.Series.{firstYear, lastYear}
-use Rattle.year.specs.declared.Figures.{Figures}
-use Rattle.year.specs.declared.Answer.{Answer}
-use Rattle.year.specs.declared.Answer.the-variants.{Stated, Refused}
 use Rattle.year.specs.Answer.{answerOf}
-use Rattle.page.specs.Number.{word, signed}
-use Rattle.page.specs.Line.{newline, figure, refusalLine}
+use Rattle.year.specs.declared.{Figures.Figures, Answer.Answer, Answer.the-variants.Stated, Answer.the-variants.Refused}
+use Rattle.page.specs.{Number.word, Number.signed, Line.newline, Line.figure, Line.refusalLine}
 
 -- line one: the year's number
 unfoldable pub yearLine : ℕ → List ℕ

@@ -1,9 +1,7 @@
 -- Grams of volatile solids, of methane and of carbon dioxide equivalent are three units (01, "The lagoon month"). Two rules alone lead from one
 -- to another: the B0 rule and the potential (01, "The year").
 use Prim.Native.Nat.{ℕ, _*_, _/_}
-use Rattle.units.specs.declared.solids.Solids.{Solids}
-use Rattle.units.specs.declared.methane.Methane.{Methane}
-use Rattle.units.specs.declared.co2e.Co2e.{Co2e}
+use Rattle.units.specs.declared.{solids.Solids.Solids, methane.Methane.Methane, co2e.Co2e.Co2e}
 
 abbrev pub solids : ℕ → Solids
 solids grams = record { 0 = grams }

@@ -1,7 +1,6 @@
 -- From a signed total of grams of carbon dioxide equivalent to tonnes (01, "The year").
 use Prim.Native.Nat.{ℕ}
-use lib.IntN.{ℤ, pos, negsuc, _+ℤ_}
-use lib.Signed.{shrZ}
+use lib.{IntN.ℤ, IntN.pos, IntN.negsuc, IntN._+ℤ_, Signed.shrZ}
 
 -- net: the nearest tonne, an exact half to the lower number (house). `shrZ z m` is z / m rounded down.
 abbrev pub netOf : ℤ → ℤ

@@ -1,23 +1,15 @@
 -- The year's answer: refusals 9, 8, 7 and 12 in this order, or the figures (01, "Refusal numbers", "The year").
 use Prim.Native.Nat.{ℕ, _^_}
-use mathlib.Core.Bool.{Bool, false, cond, _||_}
-use mathlib.Core.List.{List, [], _∷_}
-use lib.Dec.{ltb, leb}
-use lib.IntN.{natAbs}
+use mathlib.Core.{Bool.Bool, Bool.false, Bool.cond, Bool._||_, List.List, List.[], List._∷_}
+use lib.{Dec.ltb, Dec.leb, IntN.natAbs}
 use Rattle.laws.specs.Counting.{some}
 use Rattle.keys.specs.Table.{categories}
 use Rattle.months.specs.Series.{firstYear, lastYear}
-use Rattle.needs.specs.Complete.{completeOf}
-use Rattle.needs.specs.Shares.{overOf}
-use Rattle.needs.specs.declared.complete.Completeness.{Completeness}
-use Rattle.needs.specs.declared.complete.Completeness.the-variants.{Complete, Lacking}
-use Rattle.credit.specs.Credit.{operatorOf, modelledOf, meteredOf, totalOf}
-use Rattle.credit.specs.declared.Operator.{Operator}
-use Rattle.year.specs.Figures.{figuresOf}
-use Rattle.lines.specs.Lines.{headsOf, all, sumsOf}
-use Rattle.year.specs.declared.Answer.{Answer}
-use Rattle.year.specs.declared.Answer.the-variants.{Stated, Refused}
-use Rattle.lines.specs.declared.Sums.{Sums}
+use Rattle.needs.specs.{Complete.completeOf, Shares.overOf}
+use Rattle.needs.specs.declared.complete.Completeness.{Completeness, the-variants.Complete, the-variants.Lacking}
+use Rattle.credit.specs.{Credit.operatorOf, Credit.modelledOf, Credit.meteredOf, Credit.totalOf, declared.Operator.Operator}
+use Rattle.year.specs.{Figures.figuresOf, declared.Answer.Answer, declared.Answer.the-variants.Stated, declared.Answer.the-variants.Refused}
+use Rattle.lines.specs.{Lines.headsOf, Lines.all, Lines.sumsOf, declared.Sums.Sums}
 
 -- the sums of a year in grams, as whole numbers without an end; the modelled figure and the total by how far they are from 0
 abbrev pub gramsBy : Sums → Operator → List ℕ

@@ -2,11 +2,9 @@
 use Prim.Native.Nat.{ℕ}
 use mathlib.Core.List.{List}
 use Rattle.units.specs.Tonnes.{netOf, creditedOf}
-use Rattle.credit.specs.Credit.{operatorOf, meteredOf, totalOf}
-use Rattle.credit.specs.declared.Operator.{Operator}
-use Rattle.lines.specs.Lines.{all, sumsOf}
+use Rattle.credit.specs.{Credit.operatorOf, Credit.meteredOf, Credit.totalOf, declared.Operator.Operator}
+use Rattle.lines.specs.{Lines.all, Lines.sumsOf, declared.Sums.Sums}
 use Rattle.year.specs.declared.Figures.{Figures}
-use Rattle.lines.specs.declared.Sums.{Sums}
 
 abbrev pub figuresBy : Sums → Operator → Figures
 figuresBy sums operator =

@@ -4,11 +4,8 @@ use Prim.Native.Nat.{ℕ, _*_, _-_, _/_}
 use mathlib.Core.List.{List, _++_}
 use lib.ListN.{take, drop}
 use Rattle.keys.specs.Number.{recordBytes}
-use Rattle.book.specs.Run.{recordsOf}
-use Rattle.book.specs.declared.Posted.{Posted}
-use Rattle.book.specs.declared.Posted.the-variants.{Taken, Refused as RefusedRecord}
-use Rattle.years.specs.declared.Fed.{Fed}
-use Rattle.years.specs.declared.Fed.the-variants.{Held, Refused}
+use Rattle.book.specs.{Run.recordsOf, declared.Posted.Posted, declared.Posted.the-variants.Taken, declared.Posted.the-variants.Refused as RefusedRecord}
+use Rattle.years.specs.declared.Fed.{Fed, the-variants.Held, the-variants.Refused}
 
 -- how many of n bytes are whole records, and those records among a block's first n bytes
 abbrev pub wholeBytes : ℕ → ℕ

@@ -1,15 +1,11 @@
 -- What the year program prints for its whole input (01, "Figures to check"). Assumes nothing.
 use Prim.Native.Nat.{ℕ}
-use mathlib.Core.Path.{_≡_}
-use mathlib.Core.List.{List, []}
-use Rattle.book.specs.Book.{emptyBook}
-use Rattle.book.specs.Run.{recordsOf, answerAll, bookAll}
-use Rattle.book.specs.declared.Posted.{Posted}
-use Rattle.book.specs.declared.Posted.the-variants.{Taken, Refused as RefusedRecord}
+use mathlib.Core.{Path._≡_, List.List, List.[]}
+use Rattle.book.specs.{Book.emptyBook, Run.recordsOf, Run.answerAll, Run.bookAll}
+use Rattle.book.specs.declared.Posted.{Posted, the-variants.Taken, the-variants.Refused as RefusedRecord}
 use Rattle.page.specs.Line.{refusalLine}
 use Rattle.text.specs.Lines.{printed}
-use Rattle.years.specs.declared.Ending.{Ending}
-use Rattle.years.specs.declared.Ending.the-variants.{Ended, Refused, Failed}
+use Rattle.years.specs.declared.Ending.{Ending, the-variants.Ended, the-variants.Refused, the-variants.Failed}
 
 -- the book that an input makes of the empty one, and how its reading ends
 unfoldable pub bookOf : List ℕ → List ℕ
