@@ -3,7 +3,7 @@ ghost use mathlib.Core.Path.{_≡_};
 ghost use Prim.Native.Nat.{_+_, _*_, _≤_};
 ghost use lib.ListN.{length, take};
 ghost use Rattle.gaps.specs.Series.{mostHours};
-ghost use Rattle.month.specs.Format.{isOtherMark, floatsAt, lentOf, statedOf};
+ghost use Rattle.month.specs.Format.{header, wide, isOtherMark, floatsAt, lentOf, statedOf};
 use meter::MonthAnswer;
 use reading::stored::FLOAT;
 
@@ -52,7 +52,7 @@ pub fn stated(input: &[u8]) -> MonthAnswer
 
 // The month of an input that has so many flows and contents, and states from there on.
 fn lent(input: &[u8], flows: usize, contents: usize) -> MonthAnswer
-    requires { ⌜ 10 + 4 * flows + 4 * contents ≤ length (now input) ⌝ }
+    requires { ⌜ header + wide * flows + wide * contents ≤ length (now input) ⌝ }
     ensures { λ r. ⌜ r ≡ lentOf (now (input .entry)) flows contents ⌝ }
 {
     if gaps::MOST_HOURS < flows {
