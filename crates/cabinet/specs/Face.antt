@@ -23,6 +23,7 @@ abbrev pub postedOf : Posted → CabinetPosted
 postedOf Taken = record { number = 0; place = 0 }
 postedOf (RefusedRecord number place) = record { number = number; place = place }
 
+-- a year: number and place beside its figures
 abbrev pub yearBy : ℕ → ℕ → Figures → CabinetYear
 yearBy number place figures =
     record {

@@ -1,19 +1,23 @@
 -- How large the operator's figures of a year can be, from the ranges of what was entered; and the figures of one month more.
 -- Assumes nothing.
-use Prim.Native.Nat.{ℕ, zero, suc, _+_, _*_, _-_, _^_, _≤_}
+use Prim.Native.Nat.{ℕ, _+_, _*_, _-_, _^_, _≤_, _<_}
 use mathlib.Core.List.{List}
-use mathlib.Core.Path.{_≡_, _∙_}
-use native.Mathlib.Nat.{not-suc-le-zero}
+use mathlib.Core.Path.{ap, _≡_, _∙_}
 use native.Mathlib.Omega.{arith}
-use Rattle.laws.proofs.Counting.{sum-most}
+use Rattle.laws.proofs.Counting.{sum-most, sum-more}
+use Rattle.laws.specs.Counting.{sum}
+use Rattle.units.specs.Grams.{methane, co2e}
+use Rattle.units.specs.declared.co2e.Co2e.{Co2e}
+use Rattle.units.specs.declared.methane.Methane.{Methane}
 use Rattle.calendar.specs.Days.{monthsInYear}
 use Rattle.keys.specs.Table.{months, devices}
 use Rattle.book.specs.Valid.{Valid}
-use Rattle.slots.specs.Reads.{destroyedOf}
+use Rattle.slots.specs.Reads.{projectMethaneOf, baselineCo2Of, projectCo2Of, destroyedOf}
+use Rattle.slots.specs.declared.Seen.{Seen}
 use Rattle.months.specs.Asks.{InPeriod}
 use Rattle.months.specs.Series.{amountOf, monthsBefore}
 use Rattle.credit.specs.Asks.{OperatorFits}
-use Rattle.credit.specs.Credit.{destroyedAt, operatorAt, together, operatorOver}
+use Rattle.credit.specs.Credit.{gramsOf, destroyedAt, operatorOf}
 use Rattle.credit.specs.declared.Operator.{Operator}
 use Rattle.credit.proofs.Ranges.{methane-most, baseline-most, project-most, destroyed-most}
 
@@ -23,14 +27,14 @@ kilogramsMost = 4294967295000
 abbrev pub destroyedMost : ℕ
 destroyedMost = 4000000000000
 
-pub record OperatorMost (n : ℕ) (operator : Operator) : Type 0 where
-  pub methane : operator .methane .0 ≤ n * kilogramsMost
-  pub baseline : operator .baseline .0 ≤ n * kilogramsMost
-  pub project : operator .project .0 ≤ n * kilogramsMost
-  pub destroyed : operator .destroyed .0 ≤ n * destroyedMost
+pub record OperatorMost (operator : Operator) : Type 0 where
+  pub methane : operator .methane .0 ≤ 12 * kilogramsMost
+  pub baseline : operator .baseline .0 ≤ 12 * kilogramsMost
+  pub project : operator .project .0 ≤ 12 * kilogramsMost
+  pub destroyed : operator .destroyed .0 ≤ 12 * destroyedMost
 
-pub operator-fits : (n : ℕ) (operator : Operator) → n ≤ monthsInYear → OperatorMost n operator → OperatorFits operator
-operator-fits n operator h o =
+pub operator-fits : (operator : Operator) → OperatorMost operator → OperatorFits operator
+operator-fits operator o =
     record {
       methane = omega (arith, o .methane);
       baseline = omega (arith, o .baseline);
@@ -38,41 +42,84 @@ operator-fits n operator h o =
       metered = omega (arith, o .destroyed);
     }
 
+-- a figure of PE, read month by month after those before the year
+module _ (read : ℕ → Seen) (before : ℕ) where
+  abbrev grams : ℕ → ℕ
+  grams m = gramsOf (read (before + m)) .0
+
+  pub sum-small : (n : ℕ) → ((m : ℕ) → 1 ≤ m → m ≤ n → amountOf (read (before + m)) < 2 ^ 32) → sum n grams ≤ n * kilogramsMost
+  sum-small n small = sum-most grams kilogramsMost n (λ m low high. omega (arith, small m low high))
+
+  module _ (nth : ℕ) {at : ℕ} {seen : Seen} {total one : Co2e} (low : 1 ≤ nth) (at-is : at ≡ before + nth) (seen-is : seen ≡ read at)
+      (one-is : one ≡ gramsOf seen) (is : total ≡ co2e (sum (nth - 1) grams)) where
+    own : one .0 ≡ grams nth
+    own = ap (λ (x : Co2e). x .0) (one-is ∙ ap gramsOf seen-is) ∙ ap (λ (m : ℕ). gramsOf (read m) .0) at-is
+
+    before-it : total .0 ≡ sum (nth - 1) grams
+    before-it = ap (λ (x : Co2e). x .0) is
+
+    pub month-fits : nth ≤ 12 → ((m : ℕ) → 1 ≤ m → m ≤ nth → amountOf (read (before + m)) < 2 ^ 32) → total .0 + one .0 < 2 ^ 64
+    month-fits high small =
+        omega (arith, own, before-it, sum-small (nth - 1) (λ m l h. small m l (omega arith)), small nth low (omega arith))
+
+    pub month-more : {next : Co2e} → next ≡ co2e (total .0 + one .0) → next ≡ co2e (sum (nth + 1 - 1) grams)
+    month-more more = more ∙ ap co2e (sum-more grams nth low before-it own)
+
+-- and what the devices destroyed
 module _ (book : List ℕ) (v : Valid book) where
-  pub month-most : (m : ℕ) → m ≤ months → OperatorMost 1 (operatorAt book m)
-  unfolding operatorAt destroyedAt
-  month-most m h =
-      record {
-        methane = omega (arith, methane-most book v m h);
-        baseline = omega (arith, baseline-most book v m h);
-        project = omega (arith, project-most book v m h);
-        destroyed =
-            omega (
-              arith,
-              sum-most (λ device. amountOf (destroyedOf book m device)) (10 ^ 12) devices
-                  (λ device low high. destroyed-most book v m device h high),
-            );
-      }
+  pub month-destroyed : (m : ℕ) → m ≤ months → destroyedAt book m .0 ≤ destroyedMost
+  unfolding destroyedAt
+  month-destroyed m h =
+      omega (
+        arith,
+        sum-most (λ device. amountOf (destroyedOf book m device)) (10 ^ 12) devices (λ device low high. destroyed-most book v m device h high),
+      )
 
-  pub operator-most : (year : ℕ) → InPeriod year → (n : ℕ) → n ≤ monthsInYear → OperatorMost n (operatorOver (λ m. operatorAt book (monthsBefore year + m)) n)
-  unfolding operatorOver
-  operator-most year period zero h = record { methane = omega arith; baseline = omega arith; project = omega arith; destroyed = omega arith }
-  operator-most year period (suc n) h =
-      let before = operator-most year period n (omega arith) in
-      let more = month-most (monthsBefore year + suc n) (omega (arith, period .high)) in
-      record {
-        methane = omega (arith, before .methane, more .methane);
-        baseline = omega (arith, before .baseline, more .baseline);
-        project = omega (arith, before .project, more .project);
-        destroyed = omega (arith, before .destroyed, more .destroyed);
-      }
+  module _ (year : ℕ) (period : InPeriod year) where
+    within : (m : ℕ) → m ≤ monthsInYear → monthsBefore year + m ≤ months
+    within m h = omega (arith, period .high)
 
-pub one-month-more :
-    (each : ℕ → Operator) (month : ℕ) {operator one next : Operator} → 1 ≤ month → operator ≡ operatorOver each (month - 1) → one ≡ each month →
-    next ≡ together operator one → next ≡ operatorOver each (month + 1 - 1)
-unfolding operatorOver
-one-month-more each zero low is read more = absurd (not-suc-le-zero low)
-one-month-more each (suc k) low is read more =
-    let earlier : suc k - 1 ≡ k = omega arith in
-    let later : suc k + 1 - 1 ≡ suc k = omega arith in
-    more ∙ rw (later, is, read, earlier)
+    pub methane-small : (m : ℕ) → m ≤ monthsInYear → amountOf (projectMethaneOf book (monthsBefore year + m)) < 2 ^ 32
+    methane-small m h = methane-most book v (monthsBefore year + m) (within m h)
+
+    pub baseline-small : (m : ℕ) → m ≤ monthsInYear → amountOf (baselineCo2Of book (monthsBefore year + m)) < 2 ^ 32
+    baseline-small m h = baseline-most book v (monthsBefore year + m) (within m h)
+
+    pub project-small : (m : ℕ) → m ≤ monthsInYear → amountOf (projectCo2Of book (monthsBefore year + m)) < 2 ^ 32
+    project-small m h = project-most book v (monthsBefore year + m) (within m h)
+
+    abbrev destroyed : ℕ → ℕ
+    destroyed m = destroyedAt book (monthsBefore year + m) .0
+
+    pub destroyed-small : (n : ℕ) → n ≤ monthsInYear → sum n destroyed ≤ n * destroyedMost
+    destroyed-small n h = sum-most destroyed destroyedMost n (λ m low high. month-destroyed (monthsBefore year + m) (within m (omega arith)))
+
+    module _ (nth : ℕ) {at : ℕ} {total one : Methane} (low : 1 ≤ nth) (high : nth ≤ monthsInYear) (at-is : at ≡ monthsBefore year + nth)
+        (one-is : one ≡ destroyedAt book at) (is : total ≡ methane (sum (nth - 1) destroyed)) where
+      own-destroyed : one .0 ≡ destroyed nth
+      own-destroyed = ap (λ (x : Methane). x .0) one-is ∙ ap (λ (m : ℕ). destroyedAt book m .0) at-is
+
+      destroyed-before : total .0 ≡ sum (nth - 1) destroyed
+      destroyed-before = ap (λ (x : Methane). x .0) is
+
+      pub destroyed-fits : total .0 + one .0 < 2 ^ 64
+      destroyed-fits =
+          omega (
+            arith,
+            own-destroyed,
+            destroyed-before,
+            destroyed-small (nth - 1) (omega arith),
+            month-destroyed (monthsBefore year + nth) (within nth high),
+          )
+
+      pub destroyed-more : {next : Methane} → next ≡ methane (total .0 + one .0) → next ≡ methane (sum (nth + 1 - 1) destroyed)
+      destroyed-more more = more ∙ ap methane (sum-more destroyed nth low destroyed-before own-destroyed)
+
+    pub operator-most : OperatorMost (operatorOf book year)
+    operator-most =
+        record {
+          methane = sum-small (projectMethaneOf book) (monthsBefore year) monthsInYear (λ m low high. methane-small m high);
+          baseline = sum-small (baselineCo2Of book) (monthsBefore year) monthsInYear (λ m low high. baseline-small m high);
+          project = sum-small (projectCo2Of book) (monthsBefore year) monthsInYear (λ m low high. project-small m high);
+          destroyed = destroyed-small monthsInYear (omega arith);
+        }

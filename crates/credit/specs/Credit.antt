@@ -1,5 +1,5 @@
 -- The year's credit: what the operator entered, the lesser of modelled and metered, and the total (01, "The year"; Equations 5.1, 5.10).
-use Prim.Native.Nat.{ℕ, zero, suc, _+_, _*_}
+use Prim.Native.Nat.{ℕ, _+_, _*_}
 use mathlib.Core.{Bool.cond, List.List}
 use lib.{IntN.ℤ, IntN.pos, IntN._+ℤ_, IntN._-ℤ_, Signed.leZ}
 use Rattle.laws.specs.Counting.{sum}
@@ -21,37 +21,19 @@ gramsOf kilograms = co2e (kilogram * amountOf kilograms)
 unfoldable pub destroyedAt : List ℕ → ℕ → Methane
 destroyedAt book m = methane (sum devices (λ device. amountOf (destroyedOf book m device)))
 
--- what the operator entered for month m: project methane, the baseline's and the project's carbon dioxide, and the destroyed methane
-unfoldable pub operatorAt : List ℕ → ℕ → Operator
-operatorAt book m =
-    record {
-      methane = gramsOf (projectMethaneOf book m);
-      baseline = gramsOf (baselineCo2Of book m);
-      project = gramsOf (projectCo2Of book m);
-      destroyed = destroyedAt book m;
-    }
+-- a figure over the twelve months of a year
+abbrev pub overYear : ℕ → (ℕ → ℕ) → ℕ
+overYear year each = sum monthsInYear (λ m. each (monthsBefore year + m))
 
--- no month yet, and two months together
-abbrev pub noMonth : Operator
-noMonth = record { methane = co2e 0; baseline = co2e 0; project = co2e 0; destroyed = methane 0 }
-
-abbrev pub together : Operator → Operator → Operator
-together one other =
-    record {
-      methane = co2e (one .methane .0 + other .methane .0);
-      baseline = co2e (one .baseline .0 + other .baseline .0);
-      project = co2e (one .project .0 + other .project .0);
-      destroyed = methane (one .destroyed .0 + other .destroyed .0);
-    }
-
--- months 1 to n
-unfoldable pub operatorOver : (ℕ → Operator) → ℕ → Operator
-operatorOver each zero = noMonth
-operatorOver each (suc n) = together (operatorOver each n) (each (suc n))
-
--- for the year
+-- what the operator entered for the year: project methane, the baseline's and the project's carbon dioxide, and the destroyed methane
 abbrev pub operatorOf : List ℕ → ℕ → Operator
-operatorOf book year = operatorOver (λ m. operatorAt book (monthsBefore year + m)) monthsInYear
+operatorOf book year =
+    record {
+      methane = co2e (overYear year (λ m. gramsOf (projectMethaneOf book m) .0));
+      baseline = co2e (overYear year (λ m. gramsOf (baselineCo2Of book m) .0));
+      project = co2e (overYear year (λ m. gramsOf (projectCo2Of book m) .0));
+      destroyed = methane (overYear year (λ m. destroyedAt book m .0));
+    }
 
 -- modelled, signed; and metered
 abbrev pub modelledOf : Co2e → Operator → ℤ

@@ -6,7 +6,7 @@ ghost use Rattle.keys.specs.Table.{months};
 ghost use Rattle.book.specs.Valid.{Valid};
 ghost use Rattle.months.specs.Series.{amountOf};
 ghost use Rattle.months.specs.Asks.{InPeriod};
-ghost use Rattle.credit.specs.Credit.{gramsOf, destroyedAt, operatorAt, noMonth, together, operatorOf, modelledOf, meteredOf, lesserOf, totalOf};
+ghost use Rattle.credit.specs.Credit.{gramsOf, destroyedAt, operatorOf, modelledOf, meteredOf, lesserOf, totalOf};
 ghost use Rattle.credit.specs.Asks.{sumsMost, OperatorFits};
 use months::MONTHS_IN_YEAR;
 use slots::Seen;
@@ -32,24 +32,22 @@ pub fn operator_of(book: &[u8], year: usize) -> Operator
     ensures { λ r. ⌜ r ≡ operatorOf (now (book .entry)) year ⌝ }
 {
     let before = months::months_before(year);
-    let mut operator = Operator::none();
-    for month in 1..=MONTHS_IN_YEAR {
-        operator = operator.plus(operator_in(book, before + month));
+    let mut methane = Co2e::of_grams(0);
+    let mut baseline = Co2e::of_grams(0);
+    let mut project = Co2e::of_grams(0);
+    let mut destroyed = Methane::of_grams(0);
+    for nth in 1..=MONTHS_IN_YEAR {
+        let month = before + nth;
+        methane = methane.plus(grams(slots::project_methane(book, month)));
+        baseline = baseline.plus(grams(slots::baseline_co2(book, month)));
+        project = project.plus(grams(slots::project_co2(book, month)));
+        destroyed = destroyed.plus(destroyed_in(book, month));
     }
-    operator
-}
-
-// The same for one month.
-fn operator_in(book: &[u8], month: usize) -> Operator
-    requires { ⌜ Valid (now book) ⌝ }
-    requires { ⌜ month ≤ months ⌝ }
-    ensures { λ r. ⌜ r ≡ operatorAt (now (book .entry)) month ⌝ }
-{
     Operator {
-        methane: grams(slots::project_methane(book, month)),
-        baseline: grams(slots::baseline_co2(book, month)),
-        project: grams(slots::project_co2(book, month)),
-        destroyed: destroyed_in(book, month),
+        methane,
+        baseline,
+        project,
+        destroyed,
     }
 }
 
@@ -113,33 +111,6 @@ fn signed(mass: Co2e) -> i64
 }
 
 impl Operator {
-    fn none() -> Self
-        ensures { λ r. ⌜ r ≡ noMonth ⌝ }
-    {
-        Operator {
-            methane: Co2e::of_grams(0),
-            baseline: Co2e::of_grams(0),
-            project: Co2e::of_grams(0),
-            destroyed: Methane::of_grams(0),
-        }
-    }
-
-    fn plus(self, other: Self) -> Self
-        requires { ⌜ OperatorFits self × OperatorFits other ⌝ }
-        ensures { λ r. ⌜ r ≡ together self other ⌝ }
-    {
-        let methane = self.methane;
-        let baseline = self.baseline;
-        let project = self.project;
-        let destroyed = self.destroyed;
-        Operator {
-            methane: methane.plus(other.methane),
-            baseline: baseline.plus(other.baseline),
-            project: project.plus(other.project),
-            destroyed: destroyed.plus(other.destroyed),
-        }
-    }
-
     // The destroyed methane, by the potential.
     pub fn metered(self) -> Co2e
         requires { ⌜ OperatorFits self ⌝ }

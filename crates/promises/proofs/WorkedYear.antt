@@ -9,9 +9,8 @@ use borrow.Author.Tests.{eqb-true}
 use lib.Dec.{eqb, lit≤}
 use lib.IntN.{pos, negℤ}
 use Rattle.laws.specs.Counting.{sum}
-use Rattle.laws.proofs.Counting.{Each}
+use Rattle.laws.proofs.Counting.{Each, sum-same}
 use Rattle.units.specs.Grams.{solids, methane, co2e, b0RuleOf}
-use Rattle.units.specs.declared.co2e.Co2e.{Co2e}
 use Rattle.units.specs.declared.methane.Methane.{Methane}
 use Rattle.units.specs.declared.solids.Solids.{Solids}
 use Rattle.calendar.specs.Days.{monthsInYear, leapOf, februaryOf, lengthsOf, lengthOf, goneOf, daysOf}
@@ -23,12 +22,12 @@ use Rattle.lagoon.specs.declared.Totals.{Totals}
 use Rattle.keys.specs.Table.{lines, ln}
 use Rattle.keys.specs.Slot.{slotOf}
 use Rattle.book.specs.Book.{recordAt}
-use Rattle.slots.specs.Reads.{firstMonthOf, lineOf, drainedOf, baselineCo2Of, projectCo2Of}
+use Rattle.slots.specs.Reads.{firstMonthOf, lineOf, drainedOf, projectMethaneOf, baselineCo2Of, projectCo2Of}
 use Rattle.slots.specs.declared.Line.{Line}
 use Rattle.slots.specs.declared.Seen.{Seen}
 use Rattle.slots.specs.declared.Warmth.{Warmth}
 use Rattle.months.specs.Series.{firstYear, amountOf, monthsBefore, daysAt, factorBy, factorAt}
-use Rattle.credit.specs.Credit.{gramsOf, destroyedAt, operatorAt, operatorOver, operatorOf, totalOf}
+use Rattle.credit.specs.Credit.{gramsOf, destroyedAt, overYear, operatorOf, totalOf}
 use Rattle.credit.specs.declared.Operator.{Operator}
 use Rattle.year.specs.Figures.{figuresBy, figuresOf}
 use Rattle.lines.specs.Lines.{anaerobicOf, otherOf, bySystem, nothing, headsOf, lineIn, sumsOver, all, sumsOf, headAt, enteredAt, monthAt}
@@ -49,12 +48,16 @@ month entered factor drained = record { entered = entered; factor = factor; drai
 abbrev theMonth : ℕ → Month
 theMonth m = month (enteredOf 100 1000 6000 10000 (daysOf 2011 1 m)) (factorOf (pos 302)) false
 
-abbrev operator : Co2e → Co2e → Co2e → Methane → Operator
+abbrev operator : ℕ → ℕ → ℕ → ℕ → Operator
 operator project-methane baseline project destroyed =
-    record { methane = project-methane; baseline = baseline; project = project; destroyed = destroyed }
+    record { methane = co2e project-methane; baseline = co2e baseline; project = co2e project; destroyed = methane destroyed }
+
+-- the same every month
+abbrev monthly : ℕ → ℕ
+monthly grams = sum monthsInYear (λ m. grams)
 
 abbrev theOperator : Bool → Operator
-theOperator destroyed = operator (co2e 1000000) (co2e 0) (co2e 500000) (methane (Records.gramsOf destroyed))
+theOperator destroyed = operator (monthly 1000000) (monthly 0) (monthly 500000) (monthly (Records.gramsOf destroyed))
 
 abbrev theSums : Sums
 theSums = record { entered = solids 175200000; degraded = solids 175200000; removed = solids 0; carried = solids 0; baseline = co2e 600445440 }
@@ -73,10 +76,13 @@ unfolding sumsOver
 same-sums one other zero same = refl
 same-sums one other (suc n) same = rw (same (suc n) (omega arith) (omega arith), same-sums one other n (λ l low high. same l low (omega arith)))
 
-same-operator : (one other : ℕ → Operator) (n : ℕ) → Each n (λ m. one m ≡ other m) → operatorOver one n ≡ operatorOver other n
-unfolding operatorOver
-same-operator one other zero same = refl
-same-operator one other (suc n) same = rw (same (suc n) (omega arith) (omega arith), same-operator one other n (λ m low high. same m low (omega arith)))
+over-year : (each : ℕ → ℕ) (grams : ℕ) → Each monthsInYear (λ m. each m ≡ grams) → overYear firstYear each ≡ monthly grams
+over-year each grams is =
+    sum-same (λ m. each (monthsBefore firstYear + m)) (λ m. grams) monthsInYear
+    (λ m low high. let e : monthsBefore firstYear + m ≡ m = omega arith in ap each e ∙ is m low high)
+
+same-operator : {a b c d w x y z : ℕ} → a ≡ w → b ≡ x → c ≡ y → d ≡ z → operator a b c d ≡ operator w x y z
+same-operator p q r s = rw (p, q, r, s)
 
 module _ (book : List ℕ) (destroyed : Bool) (s : Stands book destroyed) where
   days-are : (m : ℕ) → daysAt book m ≡ daysOf 2011 1 m
@@ -109,15 +115,6 @@ module _ (book : List ℕ) (destroyed : Bool) (s : Stands book destroyed) where
         let fourth = ap amountOf (none-is book destroyed s m low high 4 (s .fourth-device m low high)) in
         ap methane (omega (arith, first, second, third, fourth))
 
-    operator-is : operatorAt book m ≡ theOperator destroyed
-    unfolding operatorAt
-    operator-is =
-        let p = project-is book destroyed s m low high in
-        ap (λ (x : Seen). operator (gramsOf x) (gramsOf (baselineCo2Of book m)) (gramsOf (projectCo2Of book m)) (destroyedAt book m)) (p .0)
-        ∙ ap (λ (x : Seen). operator (co2e 1000000) (gramsOf x) (gramsOf (projectCo2Of book m)) (destroyedAt book m)) (p .1)
-        ∙ ap (λ (x : Seen). operator (co2e 1000000) (co2e 0) (gramsOf x) (destroyedAt book m)) (p .2)
-        ∙ ap (operator (co2e 1000000) (co2e 0) (co2e 500000)) destroyed-is
-
   -- line 1, and a line that is not there
   first-line : lineIn book firstYear 1 ≡ theSums
   unfolding lineIn
@@ -138,12 +135,16 @@ module _ (book : List ℕ) (destroyed : Bool) (s : Stands book destroyed) where
   sums-are : sumsOf book firstYear all ≡ theSums
   sums-are = same-sums (lineIn book firstYear) (λ l. cond (eqb l 1) theSums nothing) lines (λ l low high. line-in l (eqb l 1) refl (s .line l low high)) ∙ year-sums
 
-  operators-are : operatorOf book firstYear ≡ operatorOver (λ m. theOperator destroyed) monthsInYear
+  operators-are : operatorOf book firstYear ≡ theOperator destroyed
   operators-are =
-      same-operator (λ m. operatorAt book (monthsBefore firstYear + m)) (λ m. theOperator destroyed) monthsInYear
-      (λ m low high. let e : monthsBefore firstYear + m ≡ m = omega arith in ap (operatorAt book) e ∙ operator-is m low high)
+      let project = project-is book destroyed s in
+      same-operator
+      (over-year (λ m. gramsOf (projectMethaneOf book m) .0) 1000000 (λ m low high. ap (λ (x : Seen). gramsOf x .0) (project m low high .0)))
+      (over-year (λ m. gramsOf (baselineCo2Of book m) .0) 0 (λ m low high. ap (λ (x : Seen). gramsOf x .0) (project m low high .1)))
+      (over-year (λ m. gramsOf (projectCo2Of book m) .0) 500000 (λ m low high. ap (λ (x : Seen). gramsOf x .0) (project m low high .2)))
+      (over-year (λ m. destroyedAt book m .0) (Records.gramsOf destroyed) (λ m low high. ap (λ (x : Methane). x .0) (destroyed-is m low high)))
 
-  figures-are : figuresOf book firstYear ≡ figuresBy theSums (operatorOver (λ m. theOperator destroyed) monthsInYear)
+  figures-are : figuresOf book firstYear ≡ figuresBy theSums (theOperator destroyed)
   unfolding figuresOf
   figures-are = ap (λ (x : Sums). figuresBy x (operatorOf book firstYear)) sums-are ∙ ap (figuresBy theSums) operators-are
 
@@ -158,9 +159,9 @@ answered destroyed =
     }
 
 pub worked-figures : figuresOf (made true) firstYear ≡ worked
-unfolding operatorOver totalOf
+unfolding sum totalOf
 worked-figures = figures-are (made true) true (made-stands true)
 
 pub other-tonnes : figuresOf (made false) firstYear .net ≡ negℤ (pos 6)
-unfolding operatorOver totalOf
+unfolding sum totalOf
 other-tonnes = ap (λ (f : Figures). f .net) (figures-are (made false) false (made-stands false))

@@ -14,7 +14,6 @@ use Rattle.laws.proofs.Counting.{none-passes}
 use Rattle.laws.specs.Counting.{some}
 use Rattle.units.specs.Tonnes.{netOf, creditedOf}
 use Rattle.units.specs.declared.co2e.Co2e.{Co2e}
-use Rattle.calendar.specs.Days.{monthsInYear}
 use Rattle.keys.specs.Table.{lines, categories}
 use Rattle.book.specs.Valid.{Valid}
 use Rattle.months.specs.Asks.{InPeriod}
@@ -45,7 +44,7 @@ module _ (book : List ℕ) (v : Valid book) (year : ℕ) (period : InPeriod year
       let sums = sumsOf book year all in
       let operator = operatorOf book year in
       let s = sums-most book v year period lines (omega arith) in
-      let o = operator-most book v year period monthsInYear (omega arith) in
+      let o = operator-most book v year period in
       let baseline = s .baseline in
       let methane = o .methane in
       let added = o .baseline in

@@ -1,5 +1,5 @@
 -- The years are laid one after the other (Walk), and each finds room, since no year's lines are longer than `yearBytes` (Lengths). Assumes nothing.
-use mathlib.Core.Path.{_≡_, _∙_}
+use mathlib.Core.Path.{_∙_}
 use Prim.Native.Nat.{suc, _-_, _^_, _<_}
 use native.Mathlib.Omega.{arith}
 use borrow.Author.Needs.{needs}

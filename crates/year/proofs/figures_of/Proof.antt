@@ -6,7 +6,6 @@ use borrow.Author.Needs.{needs}
 use denote.Ref.{now}
 use mir.Syntax.{w64}
 use mir.Val.{ofZ, toZ}
-use Rattle.calendar.specs.Days.{monthsInYear}
 use Rattle.keys.specs.Table.{lines}
 use Rattle.credit.specs.Asks.{OperatorFits}
 use Rattle.credit.proofs.Bounds.{operator-fits, operator-most}
@@ -19,8 +18,7 @@ operator-small : (c : tie.After-operator-of) → OperatorFits (c .operator-of .r
 operator-small c =
     let start = c .before .before .before in
     subst OperatorFits (sym (c .operator-of .ensures))
-    (operator-fits monthsInYear _ (omega arith)
-    (operator-most (now (start .args .book)) (start .pre .0) (start .args .year) (start .pre .1) monthsInYear (omega arith)))
+    (operator-fits _ (operator-most (now (start .args .book)) (start .pre .0) (start .args .year) (start .pre .1)))
 
 sums-of-requires : tie.Need-sums-of-requires
 sums-of-requires c κs = search needs

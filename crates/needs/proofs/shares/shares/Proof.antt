@@ -4,7 +4,7 @@ use Prim.Native.Nat.{_+_, _-_, _≤_}
 use mathlib.Core.Path.{_≡_}
 use native.Mathlib.Omega.{arith}
 use denote.Ref.{now}
-use Rattle.keys.specs.Table.{lines, categories}
+use Rattle.keys.specs.Table.{lines}
 use Rattle.needs.specs.Asks.{Shared}
 use Rattle.needs.proofs.Sharing.{shared-more, shared-most, shared-none}
 use Rattle.needs.proofs.shares.shares.Statement.{statement}
