@@ -7,11 +7,11 @@ use Rattle.keys.specs.Number.{numberAt}
 use Rattle.meter.specs.{declared.MonthAnswer.MonthAnswer, declared.MonthAnswer.the-variants.Refused, Month.monthOf}
 
 -- the bytes before the flows, and those of a float
-abbrev pub header : ℕ
-header = 10
+abbrev pub headerBytes : ℕ
+headerBytes = 10
 
-abbrev pub wide : ℕ
-wide = 4
+abbrev pub floatBytes : ℕ
+floatBytes = 4
 
 -- the input has a mark, and it is not CM
 abbrev pub isOtherMark : List ℕ → Bool
@@ -20,17 +20,17 @@ isOtherMark input = leb 2 (length input) && not (eqb (getD input 0 0) (code "C")
 -- so many floats, from `at` on; every pattern that is no number gives the one float that is none
 unfoldable pub floatsAt : List ℕ → ℕ → ℕ → List Float
 floatsAt input at zero = []
-floatsAt input at (suc count) = ofBits binary32 (numberAt input at wide) ∷ floatsAt input (at + wide) count
+floatsAt input at (suc count) = ofBits binary32 (numberAt input at floatBytes) ∷ floatsAt input (at + floatBytes) count
 
 -- the month of an input that has so many flows and contents, and states from there on
 unfoldable pub lentOf : List ℕ → ℕ → ℕ → MonthAnswer
 lentOf input flows contents =
-    let states = header + wide * flows + wide * contents in
-    monthOf (floatsAt input header flows) (floatsAt input (header + wide * flows) contents) (drop states input) (numberAt input 2 2)
+    let states = headerBytes + floatBytes * flows + floatBytes * contents in
+    monthOf (floatsAt input headerBytes flows) (floatsAt input (headerBytes + floatBytes * flows) contents) (drop states input) (numberAt input 2 2)
 
 -- the input is as long as its counts of flows, contents and states say
 abbrev pub isWhole : List ℕ → ℕ → ℕ → ℕ → Bool
-isWhole input flows contents states = leb header (length input) && eqb (length input) (header + wide * flows + wide * contents + states)
+isWhole input flows contents states = leb headerBytes (length input) && eqb (length input) (headerBytes + floatBytes * flows + floatBytes * contents + states)
 
 -- another mark is refused 2; an input that is shorter or longer than it says, 10, since no such month was lent
 unfoldable pub statedOf : List ℕ → MonthAnswer

@@ -3,7 +3,7 @@ ghost use mathlib.Core.Path.{_≡_};
 ghost use Prim.Native.Nat.{_+_, _*_, _≤_};
 ghost use lib.ListN.{length, take};
 ghost use Rattle.gaps.specs.Series.{mostHours};
-ghost use Rattle.month.specs.Format.{header, wide, isOtherMark, floatsAt, lentOf, statedOf};
+ghost use Rattle.month.specs.Format.{headerBytes, floatBytes, isOtherMark, floatsAt, lentOf, statedOf};
 use meter::MonthAnswer;
 use reading::stored::FLOAT;
 
@@ -52,7 +52,7 @@ pub fn stated(input: &[u8]) -> MonthAnswer
 
 // The month of an input that has so many flows and contents, and states from there on.
 fn lent(input: &[u8], flows: usize, contents: usize) -> MonthAnswer
-    requires { ⌜ header + wide * flows + wide * contents ≤ length (now input) ⌝ }
+    requires { ⌜ headerBytes + floatBytes * flows + floatBytes * contents ≤ length (now input) ⌝ }
     ensures { λ r. ⌜ r ≡ lentOf (now (input .entry)) flows contents ⌝ }
 {
     if gaps::MOST_HOURS < flows {
@@ -88,7 +88,7 @@ fn is_other_mark(input: &[u8]) -> bool
 
 // So many floats of the input, from `at` on.
 fn floats(input: &[u8], at: usize, count: usize) -> [f32; gaps::MOST_HOURS]
-    requires { ⌜ (count ≤ mostHours) × (at + 4 * count ≤ length (now input)) ⌝ }
+    requires { ⌜ (count ≤ mostHours) × (at + floatBytes * count ≤ length (now input)) ⌝ }
     ensures { λ r. ⌜ length r ≡ mostHours ⌝ }
     ensures { λ r. ⌜ take count r ≡ floatsAt (now (input .entry)) at count ⌝ }
 {
