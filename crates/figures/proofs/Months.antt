@@ -8,7 +8,7 @@ use Rattle.units.specs.Grams.{methane}
 use Rattle.reading.specs.Exact.{isUpTo, timesDown, scaledOf}
 use Rattle.reading.specs.Hour.{readingOf}
 use Rattle.laws.specs.Counting.{sum, firstFrom}
-use Rattle.gaps.specs.Series.{amount}
+use Rattle.series.specs.Series.{amount}
 use Rattle.gaps.specs.Filling.{startOf, totalOf, averageOf, fillOf, filled}
 use Rattle.meter.specs.declared.MonthAnswer.{MonthAnswer}
 use Rattle.meter.specs.declared.MonthAnswer.the-variants.{Destroyed}

@@ -20,7 +20,7 @@ use Rattle.reading.specs.declared.Measure.the-variants.{Whole}
 use Rattle.reading.specs.Exact.{isUpTo, timesDown, scaledOf, hundredthsOf}
 use Rattle.reading.specs.Hour.{readingOf}
 use Rattle.laws.specs.Counting.{sum}
-use Rattle.gaps.specs.Series.{amount}
+use Rattle.series.specs.Series.{amount}
 use Rattle.gaps.specs.Filling.{filled}
 use Rattle.hour.specs.Hour.{recordedOf, hourAt, gramsIn, hourOf}
 use Rattle.meter.specs.Month.{gramsOf, destroyedOf, meteredOf}

@@ -9,9 +9,9 @@ use native.Mathlib.Nat.{eq-or-lt-of-le, lt-of-not-le, le-of-suc-le-suc, le-antis
 use native.Mathlib.Omega.{arith}
 use Rattle.laws.specs.Counting.{firstFrom}
 use Rattle.laws.proofs.Counting.{search-between}
-use Rattle.gaps.specs.Series.{isRecorded}
+use Rattle.series.specs.Series.{isRecorded}
 use Rattle.gaps.specs.Filling.{startOf, endOf}
-use Rattle.gaps.specs.declared.Value.{Value}
+use Rattle.series.specs.declared.Value.{Value}
 use Rattle.gaps.proofs.Stepping.{start-le}
 
 -- the hours from a up to b of a month of n are missing, hour h is one of them, and no hour of the month beside them is missing

@@ -6,14 +6,10 @@ use mathlib.Core.Bool.{Bool, true, false, _&&_, cond}
 use native.Mathlib.Nat.{suc-mul, mul-assoc, mul-comm, div-mul-le-self, le-trans, le-of-eq}
 use native.Mathlib.Omega.{arith}
 use lib.Dec.{leb, ltb}
-use Rattle.gaps.specs.Series.{amount}
+use Rattle.series.specs.Series.{amount}
 use Rattle.gaps.specs.Filling.{startOf, endOf, plus, totalOf, neighbours, inUnits, averageOf, fillOf, orElse, filled}
-use Rattle.gaps.specs.declared.Value.{Value}
-use Rattle.gaps.specs.declared.Value.the-variants.{Recorded, Missing}
-
-pub amount-of : (v : Value) (n : ℕ) → v ≡ Recorded n → n ≤ amount v
-unfolding amount
-amount-of v n e = rw e (omega arith)
+use Rattle.series.specs.declared.Value.{Value}
+use Rattle.series.specs.declared.Value.the-variants.{Recorded, Missing}
 
 plus-most : (v w : Value) → amount (plus v w) ≤ amount v + amount w
 unfolding amount

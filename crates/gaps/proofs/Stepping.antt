@@ -1,4 +1,4 @@
--- An hour more: of a sum, of the run that an hour stands in, and of an array that holds a series.
+-- An hour more: of a sum, and of the run that an hour stands in.
 -- Assumes nothing.
 use Prim.Native.Nat.{ℕ, zero, suc, _+_, _-_, _≤_, _<_}
 use mathlib.Core.Path.{_≡_, refl, ap, sym, _∙_, subst}
@@ -11,15 +11,10 @@ use borrow.Author.Tests.{eq-eqb, ne-eqb, eqb-false}
 use lib.Dec.{eqb}
 use lib.ListN.{length, set}
 use lib.Seq.{getD-set-same, getD-set-other}
-use Rattle.gaps.specs.Series.{isRecorded, valueOf, series}
+use Rattle.series.specs.Series.{isRecorded, valueOf, series}
 use Rattle.gaps.specs.Filling.{startOf, plus, totalOf}
-use Rattle.gaps.specs.declared.Value.{Value}
-use Rattle.gaps.specs.declared.Value.the-variants.{Recorded, Missing}
-
--- a slot that is read
-pub slot-read : (x : ℕ) → (x ≡ 0 → ⊥) → Recorded (x - 1) ≡ valueOf x
-slot-read zero h = absurd (h refl)
-slot-read (suc x) h = ap Recorded (omega arith)
+use Rattle.series.specs.declared.Value.{Value}
+use Rattle.series.specs.declared.Value.the-variants.{Recorded, Missing}
 
 pub total-more :
     (s : ℕ → Value) (a k : ℕ) {t v : Value} → t ≡ totalOf s a k → v ≡ s (a + k) → plus t v ≡ totalOf s a (k + 1)
@@ -72,15 +67,3 @@ module _ (s : ℕ → Value) (h : ℕ) where
       by-test : (b : Bool) → isRecorded (s h) ≡ b → startOf s (h + 1) < h + 1 → P (startOf s (h + 1))
       by-test true e l = absurd (omega (arith, start-anew e))
       by-test false e l = subst P (start-same e) (known e)
-
-module _ (l : List ℕ) (i slot : ℕ) where
-  pub stored :
-      (P : ℕ → Value) → i < length l → ((k : ℕ) → k < i → series l k ≡ P k) → valueOf slot ≡ P i →
-      (k : ℕ) → k < i + 1 → series (set l i slot) k ≡ P k
-  stored P b p q =
-      below-more (λ (k : ℕ). series (set l i slot) k ≡ P k) i
-      (λ k h. ap valueOf (getD-set-other l i k slot 0 (λ e. omega arith)) ∙ p k h)
-      (ap valueOf (getD-set-same l i slot 0 b) ∙ q)
-
-  pub later : ((k : ℕ) → i ≤ k → series l k ≡ Missing) → (k : ℕ) → i + 1 ≤ k → series (set l i slot) k ≡ Missing
-  later p k h = ap valueOf (getD-set-other l i k slot 0 (λ e. omega arith)) ∙ p k (omega arith)

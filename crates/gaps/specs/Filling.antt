@@ -1,9 +1,9 @@
 -- The gaps of a month of n hours (01, "The meter month"), over any series of hours.
-use Prim.Native.Nat.{ℕ, zero, suc, _+_, _-_, _*_, _/_}
+use Prim.Native.Nat.{ℕ, zero, suc, _+_, _-_, _*_, _/_, _≤_, _<_}
 use mathlib.Core.Bool.{_&&_, cond}
 use lib.Dec.{leb, ltb}
 use Rattle.laws.specs.Counting.{firstFrom}
-use Rattle.gaps.specs.{Series.isRecorded, declared.Value.Value, declared.Value.the-variants.Recorded, declared.Value.the-variants.Missing}
+use Rattle.series.specs.{Series.isRecorded, Series.mostAmount, declared.Value.Value, declared.Value.the-variants.Recorded, declared.Value.the-variants.Missing}
 
 -- the first hour of the run of missing hours that ends at h: each hour from it up to h is missing, and the hour before it is not
 unfoldable pub startOf : (ℕ → Value) → ℕ → ℕ
@@ -55,3 +55,7 @@ orElse Missing other = other
 -- feeds an average. Past the month's end there is nothing.
 unfoldable pub filled : ℕ → (ℕ → Value) → ℕ → ℕ → Value
 filled unit s n h = cond (ltb h n) (orElse (s h) (fillFrom unit s n (startOf s h))) Missing
+
+-- what the code asks of the unit of averages: that eight of it fit 64 bits
+abbrev pub IsUnit : ℕ → Type 0
+IsUnit unit = (0 < unit) × (unit ≤ mostAmount)

@@ -1,5 +1,4 @@
-// Filling the gaps of a month's series (01, "The meter month"). A series is whole numbers recorded hour by hour, or missing; what they
-// count is nothing to this crate.
+// Filling the gaps of a month's series (01, "The meter month"), whatever its numbers count.
 //
 // A run of missing hours is walked once, at its first hour, and what fills it is worked out there, so that the whole is linear in the hours.
 ghost use mathlib.Core.Path.{_≡_};
@@ -7,17 +6,10 @@ ghost use mathlib.Core.Bool.{false};
 ghost use lib.Dec.{eqb};
 ghost use Prim.Native.Nat.{ℕ, _*_, _≤_, _<_};
 ghost use lib.ListN.{length};
-ghost use Rattle.gaps.specs.Series.{isRecorded, valueOf, series, amount, mostAmount, mostHours, Small, IsUnit};
-ghost use Rattle.gaps.specs.Filling.{neighbours, plus, totalOf, inUnits, endOf, averageOf, fillOf, fillFrom, orElse, startOf, filled};
-
-// What an hour of a series has: a whole number, or nothing.
-pub enum Value {
-    Recorded(u64),
-    Missing,
-}
-
-// The hours of the longest month.
-pub const MOST_HOURS: usize = 744;
+ghost use Rattle.series.specs.Series.{isRecorded, series, amount, mostAmount, mostHours, Small};
+ghost use Rattle.gaps.specs.Filling.{neighbours, plus, totalOf, inUnits, endOf, averageOf, fillOf, fillFrom, orElse, startOf, filled, IsUnit};
+use series::MOST_HOURS;
+use series::Value;
 
 // A run of up to so many hours is filled.
 const LONGEST: usize = 5;
@@ -39,9 +31,9 @@ pub fn fill(hours: &[u64], unit: u64) -> [u64; MOST_HOURS]
     let mut out = [0u64; MOST_HOURS];
     let mut filling = Value::Missing;
     for hour in 0..hours.len() {
-        let value = at(hours, hour);
+        let value = series::at(hours, hour);
         filling = filling_at(hours, unit, hour, value, filling);
-        out[hour] = slot(or_else(value, filling));
+        out[hour] = series::slot(or_else(value, filling));
     }
     out
 }
@@ -64,7 +56,7 @@ fn filling_at(hours: &[u64], unit: u64, hour: usize, value: Value, filling: Valu
     requires { ⌜ (startOf (series (now hours)) hour < hour → filling ≡ fillFrom unit (series (now hours)) (length (now hours)) (startOf (series (now hours)) hour)) ⌝ }
     ensures { λ r. ⌜ (isRecorded value ≡ false → r ≡ fillFrom unit (series (now (hours .entry))) (length (now (hours .entry))) (startOf (series (now (hours .entry))) hour)) ⌝ }
 {
-    if is_recorded(value) {
+    if series::is_recorded(value) {
         return filling;
     }
     if !is_start(hours, hour) {
@@ -80,7 +72,7 @@ fn is_start(hours: &[u64], hour: usize) -> bool
     if hour == 0 {
         return true;
     }
-    is_recorded(at(hours, hour - 1))
+    series::is_recorded(series::at(hours, hour - 1))
 }
 
 // What fills the run that starts at an hour; nothing where that hour is recorded.
@@ -100,7 +92,7 @@ fn end_from(hours: &[u64], start: usize) -> usize
 {
     let mut end = start;
     while end < hours.len() {
-        if is_recorded(at(hours, end)) {
+        if series::is_recorded(series::at(hours, end)) {
             return end;
         }
         end += 1;
@@ -148,7 +140,7 @@ fn total(hours: &[u64], from: usize) -> Value
 {
     let mut sum_of = Value::Recorded(0);
     for i in 0..NEIGHBOURS {
-        sum_of = sum(sum_of, at(hours, from + i));
+        sum_of = sum(sum_of, series::at(hours, from + i));
     }
     sum_of
 }
@@ -174,47 +166,5 @@ fn in_units(total: Value, unit: u64) -> Value
     match total {
         Value::Recorded(n) => Value::Recorded(n / (AVERAGED * unit) * unit),
         Value::Missing => Value::Missing,
-    }
-}
-
-pub fn is_recorded(value: Value) -> bool
-    ensures { λ r. ⌜ r ≡ isRecorded value ⌝ }
-{
-    match value {
-        Value::Recorded(_) => true,
-        Value::Missing => false,
-    }
-}
-
-// A series stands in an array: 0 for nothing, and n + 1 for n, so that an array of zeros is the series that has nothing.
-pub fn read(slot: u64) -> Value
-    ensures { λ r. ⌜ r ≡ valueOf slot ⌝ }
-{
-    if slot == 0 {
-        Value::Missing
-    } else {
-        Value::Recorded(slot - 1)
-    }
-}
-
-// The number that is read as a value.
-pub fn slot(value: Value) -> u64
-    requires { ⌜ amount value ≤ mostAmount ⌝ }
-    ensures { λ r. ⌜ valueOf r ≡ value ⌝ }
-{
-    match value {
-        Value::Recorded(n) => n + 1,
-        Value::Missing => 0,
-    }
-}
-
-// What stands at an hour; past the end, nothing.
-fn at(hours: &[u64], hour: usize) -> Value
-    ensures { λ r. ⌜ r ≡ series (now (hours .entry)) hour ⌝ }
-{
-    if hour < hours.len() {
-        read(hours[hour])
-    } else {
-        Value::Missing
     }
 }

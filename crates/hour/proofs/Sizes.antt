@@ -16,9 +16,9 @@ use Rattle.reading.specs.declared.hour.Reading.the-variants.{Both, NoFlow, NoCo
 use Rattle.reading.specs.Exact.{litresOf, hundredthsOf}
 use Rattle.reading.specs.Hour.{isOut, stateAt, readingAt}
 use Rattle.reading.proofs.Most.{scaled-most}
-use Rattle.gaps.specs.declared.Value.{Value}
-use Rattle.gaps.specs.declared.Value.the-variants.{Recorded, Missing}
-use Rattle.gaps.specs.Series.{amount, isRecorded}
+use Rattle.series.specs.declared.Value.{Value}
+use Rattle.series.specs.declared.Value.the-variants.{Recorded, Missing}
+use Rattle.series.specs.Series.{amount, isRecorded}
 use Rattle.hour.specs.declared.Hour.{Hour}
 use Rattle.hour.specs.declared.Hour.the-variants.{Taken, Refused}
 use Rattle.hour.specs.declared.Kind.{Kind}

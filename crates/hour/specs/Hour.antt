@@ -6,7 +6,7 @@ use Rattle.units.specs.Grams.{density, shareOf}
 use Rattle.reading.specs.{Exact.litresOf, Exact.hundredthsOf, Hour.isOut, Hour.stateAt, Hour.readingAt}
 use Rattle.reading.specs.declared.Measure.{Measure, the-variants.Whole, the-variants.TurnedDown}
 use Rattle.reading.specs.declared.hour.Reading.{Reading, the-variants.Both, the-variants.NoFlow, the-variants.NoContent, the-variants.Neither}
-use Rattle.gaps.specs.{declared.Value.Value, declared.Value.the-variants.Recorded, declared.Value.the-variants.Missing, Series.amount, Series.isRecorded}
+use Rattle.series.specs.{declared.Value.Value, declared.Value.the-variants.Recorded, declared.Value.the-variants.Missing, Series.amount, Series.isRecorded}
 use Rattle.hour.specs.declared.{Hour.Hour, Hour.the-variants.Taken, Hour.the-variants.Refused, Kind.Kind, Kind.the-variants.CubicMetres}
 
 -- a value that is present is recorded, or, where it is turned down, has its hour refused

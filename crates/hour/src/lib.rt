@@ -5,12 +5,12 @@ ghost use Prim.Native.Nat.{_≤_, _<_};
 ghost use lib.ListN.{length};
 ghost use Rattle.units.specs.Grams.{methane};
 ghost use Rattle.reading.specs.Exact.{hundredthsOf};
-ghost use Rattle.gaps.specs.Series.{amount, isRecorded};
+ghost use Rattle.series.specs.Series.{amount, isRecorded};
 ghost use Rattle.hour.specs.Hour.{taking, recordedOf, hourAt, gramsIn, wholeEfficiency, hourOf};
 ghost use Rattle.hour.specs.Room.{mostFlow, mostContent};
-use gaps::Value;
 use reading::Measure;
 use reading::hour::Reading;
+use series::Value;
 use units::Methane;
 
 // A device that destroys all has this efficiency.
@@ -94,10 +94,10 @@ pub fn hour_grams(
 fn is_either(flow: Value, content: Value) -> bool
     ensures { λ r. ⌜ r ≡ (isRecorded flow || isRecorded content) ⌝ }
 {
-    if gaps::is_recorded(flow) {
+    if series::is_recorded(flow) {
         return true;
     }
-    gaps::is_recorded(content)
+    series::is_recorded(content)
 }
 
 // The methane of an hour; none where its flow or its content is missing.

@@ -7,7 +7,7 @@ use mathlib.Core.Path.{_≡_, refl}
 use native.Mathlib.Omega.{arith}
 use borrow.Author.Tests.{ne-eqb, eqb-true}
 use lib.Dec.{eqb}
-use Rattle.gaps.specs.Series.{mostHours}
+use Rattle.series.specs.Series.{mostHours}
 use Rattle.meter.specs.Month.{isMonth, areHours}
 
 pub month-yes : (n : ℕ) → (n ≡ 672) ⊎ ((n ≡ 696) ⊎ ((n ≡ 720) ⊎ (n ≡ 744))) → true ≡ isMonth n

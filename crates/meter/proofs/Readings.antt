@@ -7,10 +7,10 @@ use lib.Ieee.{Float, nan}
 use lib.ListN.{length, getD, take, List·getD-eq-default}
 use lib.Seq.{getD-take, length-take-le}
 use Rattle.reading.specs.Hour.{readingOf}
-use Rattle.gaps.specs.declared.Value.{Value}
-use Rattle.gaps.specs.declared.Value.the-variants.{Missing}
-use Rattle.gaps.specs.Series.{valueOf, series}
-use Rattle.gaps.proofs.Filled.{agree}
+use Rattle.series.specs.declared.Value.{Value}
+use Rattle.series.specs.declared.Value.the-variants.{Missing}
+use Rattle.series.specs.Series.{valueOf, series}
+use Rattle.series.proofs.Arrays.{agree}
 use Rattle.hour.specs.declared.Hour.{Hour}
 use Rattle.hour.specs.declared.Hour.the-variants.{Taken}
 use Rattle.hour.specs.Hour.{recordedOf, hourAt}

@@ -5,7 +5,8 @@ use lib.{Dec.eqb, Dec.ltb, Ieee.Float, ListN.length}
 use Rattle.laws.specs.Counting.{sum, firstFrom}
 use Rattle.units.specs.Grams.{methane}
 use Rattle.reading.specs.Hour.{stateAt}
-use Rattle.gaps.specs.{declared.Value.Value, Filling.filled}
+use Rattle.series.specs.declared.Value.{Value}
+use Rattle.gaps.specs.Filling.{filled}
 use Rattle.hour.specs.Hour.{hourAt, isRefused, flowOf, contentOf, hourOf, wholeEfficiency}
 use Rattle.hour.specs.declared.Kind.{Kind, the-variants.CubicMetres}
 use Rattle.meter.specs.declared.MonthAnswer.{MonthAnswer, the-variants.Destroyed, the-variants.Refused}

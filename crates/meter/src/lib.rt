@@ -4,7 +4,7 @@ ghost use Prim.Native.Nat.{ℕ, _≤_, _<_};
 ghost use lib.ListN.{length};
 ghost use Rattle.units.specs.Grams.{methane};
 ghost use Rattle.reading.specs.Hour.{stateAt};
-ghost use Rattle.gaps.specs.Series.{series, amount, mostHours};
+ghost use Rattle.series.specs.Series.{series, amount, mostHours};
 ghost use Rattle.hour.specs.Hour.{hourAt, flowOf, contentOf, wholeEfficiency};
 ghost use Rattle.hour.specs.Room.{mostFlow, mostContent};
 ghost use Rattle.meter.specs.Month.{gramsOf, destroyedOf, isMonth, areHours, firstRefused, monthOf};
@@ -38,8 +38,8 @@ pub fn month(flows: &[f32], contents: &[f32], states: &[u8], efficiency: u32) ->
         return MonthAnswer::Refused(OUT_OF_RANGE, 0);
     }
     let hours = states.len();
-    let mut litres = [0u64; gaps::MOST_HOURS];
-    let mut hundredths = [0u64; gaps::MOST_HOURS];
+    let mut litres = [0u64; series::MOST_HOURS];
+    let mut hundredths = [0u64; series::MOST_HOURS];
     let hour = record_hours(flows, contents, states, &mut litres, &mut hundredths);
     if hour < hours {
         return MonthAnswer::Refused(BAD_HOUR, hour);
@@ -96,8 +96,8 @@ fn record_hours(
         let Hour::Taken(flow, content) = recorded else {
             return hour;
         };
-        litres[hour] = gaps::slot(flow);
-        hundredths[hour] = gaps::slot(content);
+        litres[hour] = series::slot(flow);
+        hundredths[hour] = series::slot(content);
         hour += 1;
     }
     hour
@@ -148,10 +148,10 @@ fn sum(
             kind,
             efficiency,
             states[hour],
-            gaps::read(flows[hour]),
-            gaps::read(contents[hour]),
-            gaps::read(filled_flows[hour]),
-            gaps::read(filled_contents[hour]),
+            series::read(flows[hour]),
+            series::read(contents[hour]),
+            series::read(filled_flows[hour]),
+            series::read(filled_contents[hour]),
         ));
     }
     total

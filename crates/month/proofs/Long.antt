@@ -11,7 +11,7 @@ use lib.Ieee.{Float}
 use lib.ListN.{length, take, drop, length-drop}
 use lib.Seq.{getD-take, length-take-le}
 use Rattle.keys.specs.Number.{numberAt}
-use Rattle.gaps.specs.Series.{mostHours}
+use Rattle.series.specs.Series.{mostHours}
 use Rattle.meter.specs.declared.MonthAnswer.{MonthAnswer}
 use Rattle.meter.specs.declared.MonthAnswer.the-variants.{Refused}
 use Rattle.meter.specs.Month.{areHours, monthOf}

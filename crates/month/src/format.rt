@@ -2,7 +2,7 @@
 ghost use mathlib.Core.Path.{_≡_};
 ghost use Prim.Native.Nat.{_+_, _*_, _≤_};
 ghost use lib.ListN.{length, take};
-ghost use Rattle.gaps.specs.Series.{mostHours};
+ghost use Rattle.series.specs.Series.{mostHours};
 ghost use Rattle.month.specs.Format.{headerBytes, floatBytes, isOtherMark, floatsAt, lentOf, statedOf};
 use meter::MonthAnswer;
 use reading::stored::FLOAT;
@@ -55,10 +55,10 @@ fn lent(input: &[u8], flows: usize, contents: usize) -> MonthAnswer
     requires { ⌜ headerBytes + floatBytes * flows + floatBytes * contents ≤ length (now input) ⌝ }
     ensures { λ r. ⌜ r ≡ lentOf (now (input .entry)) flows contents ⌝ }
 {
-    if gaps::MOST_HOURS < flows {
+    if series::MOST_HOURS < flows {
         return MonthAnswer::Refused(NO_MONTH, 0);
     }
-    if gaps::MOST_HOURS < contents {
+    if series::MOST_HOURS < contents {
         return MonthAnswer::Refused(NO_MONTH, 0);
     }
     let contents_at = HEADER + FLOAT * flows;
@@ -87,12 +87,12 @@ fn is_other_mark(input: &[u8]) -> bool
 }
 
 // So many floats of the input, from `at` on.
-fn floats(input: &[u8], at: usize, count: usize) -> [f32; gaps::MOST_HOURS]
+fn floats(input: &[u8], at: usize, count: usize) -> [f32; series::MOST_HOURS]
     requires { ⌜ (count ≤ mostHours) × (at + floatBytes * count ≤ length (now input)) ⌝ }
     ensures { λ r. ⌜ length r ≡ mostHours ⌝ }
     ensures { λ r. ⌜ take count r ≡ floatsAt (now (input .entry)) at count ⌝ }
 {
-    let mut out = [0.0f32; gaps::MOST_HOURS];
+    let mut out = [0.0f32; series::MOST_HOURS];
     for i in 0..count {
         out[i] = reading::stored::float_at(input, at + FLOAT * i);
     }

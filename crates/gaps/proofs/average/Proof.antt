@@ -3,7 +3,7 @@
 use mathlib.Core.Path.{_∙_}
 use Prim.Native.Nat.{_-_}
 use borrow.Author.Tests.{lt-leb, le-leb}
-use Rattle.gaps.specs.Series.{series, mostAmount}
+use Rattle.series.specs.Series.{series, mostAmount}
 use Rattle.gaps.specs.Filling.{neighbours, averageOf}
 use Rattle.gaps.proofs.Sizes.{total-most}
 use borrow.Author.Needs.{needs}

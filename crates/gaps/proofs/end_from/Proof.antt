@@ -5,7 +5,7 @@ use Prim.Native.Nat.{_≤_, _-_}
 use native.Mathlib.Omega.{arith}
 use borrow.Author.Needs.{needs}
 use lib.ListN.{length}
-use Rattle.gaps.specs.Series.{isRecorded, series}
+use Rattle.series.specs.Series.{isRecorded, series}
 use Rattle.gaps.specs.Filling.{endOf}
 use Rattle.laws.proofs.Counting.{search-stops, search-passes, search-ends}
 use Rattle.gaps.proofs.end_from.Statement.{statement}

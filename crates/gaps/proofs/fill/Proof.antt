@@ -7,13 +7,14 @@ use native.Mathlib.Omega.{arith}
 use borrow.Author.Needs.{needs}
 use borrow.Author.Count.{below-none}
 use lib.ListN.{length, length-set}
-use Rattle.gaps.specs.Series.{series, isRecorded, mostHours, mostAmount}
+use Rattle.series.specs.Series.{series, isRecorded, mostHours, mostAmount}
 use Rattle.gaps.specs.Filling.{fillFrom, startOf, orElse, filled}
-use Rattle.gaps.specs.declared.Value.{Value}
-use Rattle.gaps.specs.declared.Value.the-variants.{Missing}
-use Rattle.gaps.proofs.Filled.{filled-here, filled-past, nothing, agree}
+use Rattle.series.specs.declared.Value.{Value}
+use Rattle.series.specs.declared.Value.the-variants.{Missing}
+use Rattle.series.proofs.Arrays.{nothing, agree, stored, later}
+use Rattle.gaps.proofs.Filled.{filled-here, filled-past}
 use Rattle.gaps.proofs.Sizes.{filled-most}
-use Rattle.gaps.proofs.Stepping.{start-kept, stored, later}
+use Rattle.gaps.proofs.Stepping.{start-kept}
 use Rattle.gaps.proofs.fill.Statement.{statement}
 use Rattle.gaps.proofs.fill.Tie as tie
 

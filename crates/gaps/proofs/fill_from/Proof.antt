@@ -3,7 +3,7 @@
 use native.Mathlib.Omega.{arith}
 use mathlib.Core.Path.{_∙_, ap}
 use lib.ListN.{length}
-use Rattle.gaps.specs.Series.{isRecorded, series}
+use Rattle.series.specs.Series.{isRecorded, series}
 use Rattle.gaps.specs.Filling.{fillOf}
 use Rattle.laws.proofs.Counting.{search-between}
 use borrow.Author.Needs.{needs}

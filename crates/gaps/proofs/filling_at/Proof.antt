@@ -4,7 +4,7 @@ use mathlib.Core.Path.{_≡_, sym, ap, _∙_}
 use mathlib.Core.Bool.{true≢false}
 use borrow.Author.Tests.{eqb-true, not-true, not-false}
 use lib.ListN.{length}
-use Rattle.gaps.specs.Series.{series}
+use Rattle.series.specs.Series.{series}
 use Rattle.gaps.specs.Filling.{fillFrom, startOf}
 use Rattle.gaps.proofs.Stepping.{start-earlier}
 use borrow.Author.Needs.{needs}

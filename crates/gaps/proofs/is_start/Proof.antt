@@ -1,7 +1,7 @@
 -- `gaps::is_start` meets its contract: the hour before tells, and the first hour has none.
 -- Assumes nothing.
 use mathlib.Core.Path.{ap, _∙_}
-use Rattle.gaps.specs.Series.{isRecorded, series}
+use Rattle.series.specs.Series.{isRecorded, series}
 use Rattle.gaps.proofs.Stepping.{start-first, start-test}
 use borrow.Author.Needs.{needs}
 use Rattle.gaps.proofs.is_start.Statement.{statement}

@@ -1,7 +1,7 @@
 -- `gaps::or_else` meets its contract: each arm knows the value's case.
 -- Assumes nothing.
 use mathlib.Core.Path.{sym, ap}
-use Rattle.gaps.specs.declared.Value.{Value}
+use Rattle.series.specs.declared.Value.{Value}
 use Rattle.gaps.specs.Filling.{orElse}
 use borrow.Author.Needs.{needs}
 use Rattle.gaps.proofs.or_else.Statement.{statement}

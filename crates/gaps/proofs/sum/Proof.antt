@@ -1,7 +1,7 @@
 -- `gaps::sum` meets its contract: each arm knows the two values' cases.
 -- Assumes nothing.
 use native.Mathlib.Omega.{arith}
-use Rattle.gaps.proofs.Sizes.{amount-of}
+use Rattle.series.proofs.Arrays.{amount-of}
 use borrow.Author.Needs.{needs}
 use Rattle.gaps.proofs.sum.Statement.{statement}
 use Rattle.gaps.proofs.sum.Tie as tie

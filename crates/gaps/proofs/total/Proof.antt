@@ -4,7 +4,7 @@ use mathlib.Core.Path.{_≡_, refl, ap, _∙_}
 use Prim.Native.Nat.{_+_, _≤_, _-_}
 use native.Mathlib.Omega.{arith}
 use borrow.Author.Needs.{needs}
-use Rattle.gaps.specs.Series.{series, mostAmount}
+use Rattle.series.specs.Series.{series, mostAmount}
 use Rattle.gaps.specs.Filling.{totalOf, neighbours}
 use Rattle.gaps.proofs.Sizes.{total-most}
 use Rattle.gaps.proofs.Stepping.{total-more}

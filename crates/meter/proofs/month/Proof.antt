@@ -7,8 +7,8 @@ use native.Mathlib.Omega.{arith}
 use lib.ListN.{length}
 use lib.Seq.{length-take-le}
 use borrow.Author.Tests.{lt-ltb, le-ltb, not-true, not-false}
-use Rattle.gaps.specs.declared.Value.{Value}
-use Rattle.gaps.specs.Series.{amount}
+use Rattle.series.specs.declared.Value.{Value}
+use Rattle.series.specs.Series.{amount}
 use Rattle.hour.specs.declared.Kind.the-variants.{CubicMetres}
 use Rattle.hour.specs.Hour.{flowOf, contentOf}
 use Rattle.hour.specs.Room.{mostFlow, mostContent}

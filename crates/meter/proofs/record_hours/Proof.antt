@@ -9,8 +9,8 @@ use borrow.Author.Count.{below-none}
 use lib.ListN.{length, length-set}
 use Rattle.laws.specs.Counting.{firstFrom}
 use Rattle.laws.proofs.Counting.{search-stops, search-passes, search-ends}
-use Rattle.gaps.specs.Series.{series, amount}
-use Rattle.gaps.proofs.Stepping.{stored}
+use Rattle.series.specs.Series.{series, amount}
+use Rattle.series.proofs.Arrays.{stored}
 use Rattle.hour.specs.declared.Hour.{Hour}
 use Rattle.hour.specs.declared.Hour.the-variants.{Taken}
 use Rattle.hour.specs.declared.Kind.the-variants.{CubicMetres}

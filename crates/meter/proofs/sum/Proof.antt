@@ -8,7 +8,7 @@ use lib.ListN.{length, getD}
 use Rattle.units.specs.Grams.{methane}
 use Rattle.reading.specs.Hour.{stateAt}
 use Rattle.reading.proofs.States.{before-end}
-use Rattle.gaps.specs.Series.{series}
+use Rattle.series.specs.Series.{series}
 use Rattle.hour.proofs.Sizes.{hour-most}
 use Rattle.meter.specs.Month.{gramsOf}
 use Rattle.meter.proofs.Totals.{grams-none, grams-more, grams-small}

@@ -8,7 +8,7 @@ use borrow.Author.Count.{below-none, below-more}
 use lib.Ieee.{nan}
 use lib.ListN.{length, getD, set, length-set}
 use lib.Seq.{getD-set-same, getD-set-other}
-use Rattle.gaps.specs.Series.{mostHours}
+use Rattle.series.specs.Series.{mostHours}
 use Rattle.month.proofs.Floats.{floatAt, floats-first}
 use Rattle.month.proofs.format.floats.Statement.{statement}
 use Rattle.month.proofs.format.floats.Tie as tie

@@ -1,9 +1,9 @@
--- `gaps::read` meets its contract: a slot that is not 0 is one more than its number.
+-- `series::read` meets its contract: a slot that is not 0 is one more than its number.
 -- Assumes nothing.
-use Rattle.gaps.proofs.Stepping.{slot-read}
+use Rattle.series.proofs.Arrays.{slot-read}
 use borrow.Author.Needs.{needs}
-use Rattle.gaps.proofs.read.Statement.{statement}
-use Rattle.gaps.proofs.read.Tie as tie
+use Rattle.series.proofs.read.Statement.{statement}
+use Rattle.series.proofs.read.Tie as tie
 
 sub-t4 : tie.Need-sub-t4
 sub-t4 c = search needs

@@ -1,11 +1,11 @@
--- `gaps::at` meets its contract: past the end the list has 0, which is nothing.
+-- `series::at` meets its contract: past the end the list has 0, which is nothing.
 -- Assumes nothing.
 use mathlib.Core.Path.{sym, ap}
 use lib.ListN.{List·getD-eq-default}
-use Rattle.gaps.specs.Series.{valueOf}
+use Rattle.series.specs.Series.{valueOf}
 use borrow.Author.Needs.{needs}
-use Rattle.gaps.proofs.at.Statement.{statement}
-use Rattle.gaps.proofs.at.Tie as tie
+use Rattle.series.proofs.at.Statement.{statement}
+use Rattle.series.proofs.at.Tie as tie
 
 mul-read : tie.Need-mul-read
 mul-read c = search needs

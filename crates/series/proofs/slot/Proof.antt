@@ -1,13 +1,13 @@
--- `gaps::slot` meets its contract: the number is small enough for one more.
+-- `series::slot` meets its contract: the number is small enough for one more.
 -- Assumes nothing.
 use mathlib.Core.Path.{sym, ap, _∙_}
 use native.Mathlib.Numerals.{add-one}
 use native.Mathlib.Omega.{arith}
-use Rattle.gaps.specs.Series.{valueOf}
-use Rattle.gaps.proofs.Sizes.{amount-of}
+use Rattle.series.specs.Series.{valueOf}
+use Rattle.series.proofs.Arrays.{amount-of}
 use borrow.Author.Needs.{needs}
-use Rattle.gaps.proofs.slot.Statement.{statement}
-use Rattle.gaps.proofs.slot.Tie as tie
+use Rattle.series.proofs.slot.Statement.{statement}
+use Rattle.series.proofs.slot.Tie as tie
 
 enum-known-value : tie.Need-enum-known-value
 enum-known-value c = search needs

@@ -1,8 +1,8 @@
 -- A month's series: each hour, from 0, recorded a whole number, or nothing. It stands in an array, and past the array's end nothing is recorded.
-use Prim.Native.Nat.{ℕ, zero, suc, _≤_, _<_, _^_}
+use Prim.Native.Nat.{ℕ, zero, suc, _≤_, _^_}
 use mathlib.Core.{Bool.Bool, Bool.true, Bool.false, List.List}
 use lib.ListN.{getD}
-use Rattle.gaps.specs.declared.Value.{Value, the-variants.Recorded, the-variants.Missing}
+use Rattle.series.specs.declared.Value.{Value, the-variants.Recorded, the-variants.Missing}
 
 abbrev pub isRecorded : Value → Bool
 isRecorded (Recorded n) = true
@@ -25,12 +25,9 @@ amount Missing = 0
 abbrev pub mostHours : ℕ
 mostHours = 744
 
--- what the code asks of a series and of the unit of its averages: that eight of its numbers, and eight units, fit 64 bits
+-- what the code asks of a series: that eight of its numbers fit 64 bits
 abbrev pub mostAmount : ℕ
 mostAmount = 2 ^ 60
 
 abbrev pub Small : List ℕ → Type 0
 Small hours = (h : ℕ) → amount (series hours h) ≤ mostAmount
-
-abbrev pub IsUnit : ℕ → Type 0
-IsUnit unit = (0 < unit) × (unit ≤ mostAmount)
