@@ -9,7 +9,7 @@ use lib.Ieee.{Float, binary32, round}
 use mathlib.Core.List.{[], _∷_}
 use Rattle.units.specs.declared.solids.Solids.{Solids}
 use Rattle.units.specs.Grams.{solids, co2e, potential, b0RuleOf}
-use Rattle.units.specs.Tonnes.{netOf}
+use Rattle.tonnes.specs.Tonnes.{netOf}
 use Rattle.calendar.specs.Days.{leapOf, februaryOf, lengthsOf, lengthOf, goneOf, daysOf}
 use Rattle.factor.specs.Rule.{denominator, added, subtracted}
 use Rattle.factor.specs.Factor.{summedOf, ruledOf, factorOf}

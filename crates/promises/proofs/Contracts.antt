@@ -2,7 +2,7 @@
 -- Assumes nothing.
 use mathlib.Core.Path.{_≡_}
 use lib.ListN.{length}
-use Rattle.units.specs.Tonnes.{netOf}
+use Rattle.tonnes.specs.Tonnes.{netOf}
 use Rattle.units.proofs.net.Reads as Net
 use Rattle.lagoon.specs.Run.{runFrom, monthsOf}
 use Rattle.lagoon.proofs.run.Reads as Run

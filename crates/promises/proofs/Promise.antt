@@ -7,7 +7,7 @@ use mathlib.Core.Path.{_≡_}
 use lib.Ieee.{Float}
 use lib.IntN.{ℤ}
 use lib.ListN.{length}
-use Rattle.units.specs.Tonnes.{netOf}
+use Rattle.tonnes.specs.Tonnes.{netOf}
 use Rattle.lagoon.specs.Asks.{RunFits}
 use Rattle.lagoon.specs.Run.{runFrom, runOf, monthsOf}
 use Rattle.lagoon.specs.declared.Month.{Month}

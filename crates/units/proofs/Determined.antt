@@ -14,8 +14,6 @@ use Rattle.units.proofs.solids.Solids.plus.Reads as SolidsPlus
 use Rattle.units.proofs.solids.Solids.less.Reads as SolidsLess
 use Rattle.units.proofs.solids.Solids.share.Reads as SolidsShare
 use Rattle.units.proofs.solids.Solids.b0_rule.Reads as SolidsB0Rule
-use Rattle.units.proofs.tonnes.net.Reads as Net
-use Rattle.units.proofs.tonnes.credited.Reads as Credited
 
 pub co2e-of-grams-one : OneAnswer Co2eOfGrams.Learnt
 co2e-of-grams-one κ a x y s t = one
@@ -58,9 +56,3 @@ solids-share-one κ a x y s t = one
 
 pub solids-b0-rule-one : OneAnswer SolidsB0Rule.Learnt
 solids-b0-rule-one κ a x y s t = one
-
-pub net-one : OneAnswer Net.Learnt
-net-one κ a x y s t = one
-
-pub credited-one : OneAnswer Credited.Learnt
-credited-one κ a x y s t = one

@@ -1,4 +1,1 @@
 pub mod Determined
-pub mod Nearest
-pub mod Filings
-pub mod Rounding

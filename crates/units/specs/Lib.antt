@@ -1,2 +1,1 @@
 pub mod Grams
-pub mod Tonnes

@@ -1,18 +1,15 @@
 // The protocol's three units, whole grams each, and the two rules that lead from one to another: the B0
-// rule and the potential. And tonnes, which the year ends in.
+// rule and the potential.
 //
 // The fields are private: outside this crate a unit is made of a number only by its name, and no sum,
 // difference or share mixes two units.
 mod co2e;
 mod methane;
 mod solids;
-mod tonnes;
 
 pub use co2e::Co2e;
 pub use methane::Methane;
 pub use solids::Solids;
-pub use tonnes::credited;
-pub use tonnes::net;
 
 // What methane warms the air by, gram for gram, as against carbon dioxide (5.3, 5.10).
 pub const POTENTIAL: u64 = 21;

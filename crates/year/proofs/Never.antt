@@ -12,7 +12,7 @@ use lib.Dec.{ltb}
 use lib.IntN.{ℤ, pos, natAbs}
 use Rattle.laws.proofs.Counting.{none-passes}
 use Rattle.laws.specs.Counting.{some}
-use Rattle.units.specs.Tonnes.{netOf, creditedOf}
+use Rattle.tonnes.specs.Tonnes.{netOf, creditedOf}
 use Rattle.units.specs.declared.co2e.Co2e.{Co2e}
 use Rattle.keys.specs.Table.{lines, categories}
 use Rattle.book.specs.Valid.{Valid}

@@ -1,7 +1,7 @@
 -- The figures of a year: the sums of its lines, what the operator entered, and the total's tonnes (01, "The year").
 use Prim.Native.Nat.{ℕ}
 use mathlib.Core.List.{List}
-use Rattle.units.specs.Tonnes.{netOf, creditedOf}
+use Rattle.tonnes.specs.Tonnes.{netOf, creditedOf}
 use Rattle.credit.specs.{Credit.operatorOf, Credit.meteredOf, Credit.totalOf, declared.Operator.Operator}
 use Rattle.lines.specs.{Lines.all, Lines.sumsOf, declared.Sums.Sums}
 use Rattle.year.specs.declared.Figures.{Figures}

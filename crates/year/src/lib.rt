@@ -87,7 +87,7 @@ fn figures_of(book: &[u8], year: usize) -> Figures
     let baseline = sums.baseline;
     let project = operator.methane;
     let metered = operator.metered();
-    let net = units::net(credit::total(baseline, operator));
+    let net = tonnes::net(credit::total(baseline, operator));
     Figures {
         entered,
         degraded,
@@ -97,6 +97,6 @@ fn figures_of(book: &[u8], year: usize) -> Figures
         project,
         metered,
         net,
-        credited: units::credited(net),
+        credited: tonnes::credited(net),
     }
 }

@@ -1,4 +1,4 @@
--- `units::net` meets its contract. A signed local holds bits: `read` takes each number back from its bits.
+-- `tonnes::net` meets its contract. A signed local holds bits: `read` takes each number back from its bits.
 -- Assumes nothing.
 use borrow.Author.Needs.{needs}
 use mathlib.Core.Path.{_≡_, _∙_}
@@ -9,9 +9,9 @@ use lib.Signed.{mag, quotZ, remZ}
 use mir.Syntax.{w64}
 use mir.Val.{SFits, toZ, ofZ}
 use mir.Facts.{toZ-ofZ}
-use Rattle.units.proofs.Rounding.{quot-small, rem-small, up-small, down-small, net-up, net-down, net-same}
-use Rattle.units.proofs.tonnes.net.Statement.{statement}
-use Rattle.units.proofs.tonnes.net.Tie as tie
+use Rattle.tonnes.proofs.Rounding.{quot-small, rem-small, up-small, down-small, net-up, net-down, net-same}
+use Rattle.tonnes.proofs.net.Statement.{statement}
+use Rattle.tonnes.proofs.net.Tie as tie
 
 small : (z : ℤ) → mag z < 2 ^ 50 → SFits w64 z
 small z h = record { sfits = omega arith }

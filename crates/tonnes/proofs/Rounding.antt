@@ -10,7 +10,7 @@ use lib.Signed.{mag, ltZ, leZ, quotZ, remZ}
 use mir.Syntax.{w64}
 use mir.Val.{SFits}
 use borrow.Author.Tests.{ltb-true, ltb-false, leb-true, leb-false, lt-ltb, le-ltb}
-use Rattle.units.specs.Tonnes.{netOf}
+use Rattle.tonnes.specs.Tonnes.{netOf}
 
 mag-neg : (r : ℕ) → mag (negℤ (pos r)) ≤ r
 mag-neg zero = omega arith

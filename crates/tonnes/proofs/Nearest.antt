@@ -8,7 +8,7 @@ use lib.Dec.{le→leb}
 use lib.IntN.{ℤ, pos, negsuc, _+ℤ_, subℕ}
 use lib.Signed.{_≤ℤ_}
 use borrow.Author.Tests.{lt-ltb, le-ltb}
-use Rattle.units.specs.Tonnes.{netOf}
+use Rattle.tonnes.specs.Tonnes.{netOf}
 
 -- z is above z less below z, and one of the two is 0: so that omega reads an integer as two numbers
 abbrev pub above : ℤ → ℕ

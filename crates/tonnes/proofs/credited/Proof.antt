@@ -1,4 +1,4 @@
--- `units::credited` meets its contract, by the sign of the tonnes.
+-- `tonnes::credited` meets its contract, by the sign of the tonnes.
 -- Assumes nothing.
 use mathlib.Core.Path.{_≡_, refl}
 use mathlib.Core.Bool.{true, false, true≢false}
@@ -10,9 +10,9 @@ use mir.Syntax.{w64}
 use mir.Val.{Fits, SFits}
 use mir.Facts.{toZ-ofZ}
 use borrow.Author.Tests.{ltb-true}
-use Rattle.units.specs.Tonnes.{creditedOf}
-use Rattle.units.proofs.tonnes.credited.Statement.{statement}
-use Rattle.units.proofs.tonnes.credited.Tie as tie
+use Rattle.tonnes.specs.Tonnes.{creditedOf}
+use Rattle.tonnes.proofs.credited.Statement.{statement}
+use Rattle.tonnes.proofs.credited.Tie as tie
 
 nothing : (z : ℤ) → ltZ z (pos 0) ≡ true → 0 ≡ creditedOf z
 nothing (pos a) h = let l = ltb-true a 0 h in absurd (omega arith)

@@ -1,6 +1,6 @@
 // From grams of carbon dioxide equivalent to tonnes.
 ghost use mathlib.Core.Path.{_≡_};
-ghost use Rattle.units.specs.Tonnes.{netOf, creditedOf};
+ghost use Rattle.tonnes.specs.Tonnes.{netOf, creditedOf};
 
 const TONNE: i64 = 1_000_000;
 

@@ -6,8 +6,8 @@ use Prim.Native.Nat.{_+_}
 use native.Mathlib.Omega.{arith}
 use lib.IntN.{ℤ, pos, negℤ, _+ℤ_}
 use lib.Signed.{_≤ℤ_}
-use Rattle.units.specs.Tonnes.{netOf, creditedOf}
-use Rattle.units.proofs.Nearest.{sum-is, ordered, near}
+use Rattle.tonnes.specs.Tonnes.{netOf, creditedOf}
+use Rattle.tonnes.proofs.Nearest.{sum-is, ordered, near}
 
 pub two-filings :
     (a b : ℤ) →

@@ -1,0 +1,4 @@
+pub mod Determined
+pub mod Filings
+pub mod Nearest
+pub mod Rounding
