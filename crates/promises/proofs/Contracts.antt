@@ -3,7 +3,7 @@
 use mathlib.Core.Path.{_≡_}
 use lib.ListN.{length}
 use Rattle.tonnes.specs.Tonnes.{netOf}
-use Rattle.units.proofs.net.Reads as Net
+use Rattle.tonnes.proofs.net.Reads as Net
 use Rattle.lagoon.specs.Run.{runFrom, monthsOf}
 use Rattle.lagoon.proofs.run.Reads as Run
 use Rattle.book.specs.Book as Book
