@@ -7,7 +7,6 @@ use Rattle.lagoon.proofs.Standing.empty.Reads as StandingEmpty
 use Rattle.lagoon.proofs.Standing.of.Reads as StandingOf
 use Rattle.lagoon.proofs.Standing.carried.Reads as StandingCarried
 use Rattle.lagoon.proofs.Standing.month.Reads as StandingMonth
-use Rattle.lagoon.proofs.run.Reads as Run
 
 pub entered-one : OneAnswer Entered.Learnt
 entered-one κ a x y s t = one
@@ -23,6 +22,3 @@ standing-carried-one κ a x y s t = one
 
 pub standing-month-one : OneAnswer StandingMonth.Learnt
 standing-month-one κ a x y s t = one
-
-pub run-one : OneAnswer Run.Learnt
-run-one κ a x y s t = one

@@ -1,11 +1,3 @@
 pub mod Determined
 pub mod Entry
 pub mod Left
-pub mod Parts
-pub mod Conserved
-pub mod Runs
-pub mod Same
-pub mod Demand3
-pub mod More
-pub mod Years
-pub mod Splitting

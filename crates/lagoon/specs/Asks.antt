@@ -1,9 +1,5 @@
 -- What the functions ask of their callers, so that no product or sum passes 64 bits. They say nothing of what the figures are.
-use Prim.Native.Nat.{ℕ, _+_, _*_, _≤_, _<_, _^_}
-use mathlib.Core.{Bool.Bool, List.List, Path._≡_}
-use lib.ListN.{length, getD}
-use Rattle.factor.specs.Rule.{million}
-use Rattle.lagoon.specs.declared.Standing.{Standing}
+use Prim.Native.Nat.{ℕ, _^_}
 
 -- the most that a month can enter within 01's ranges
 abbrev pub enteredMost : ℕ
@@ -12,10 +8,3 @@ enteredMost = 99200000000
 -- what the 120 months of the crediting period can enter stays below it
 abbrev pub gramsMost : ℕ
 gramsMost = 2 ^ 44
-
-pub record RunFits (standing : Standing) (entered factors : List ℕ) (drained : List Bool) : Type 0 where
-  pub room : standing .0 .0 + length entered * enteredMost < gramsMost
-  pub entry : (i : ℕ) → i < length entered → getD entered i 0 ≤ enteredMost
-  pub factor : (i : ℕ) → i < length entered → getD factors i 0 ≤ million
-  pub factors-long : length factors ≡ length entered
-  pub drained-long : length drained ≡ length entered

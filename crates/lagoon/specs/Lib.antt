@@ -1,3 +1,2 @@
 pub mod Month
-pub mod Run
 pub mod Asks

@@ -12,13 +12,14 @@ use Rattle.laws.proofs.Counting.{sum-most}
 use Rattle.units.specs.Grams.{potential, b0RuleOf}
 use Rattle.units.specs.declared.solids.Solids.{Solids}
 use Rattle.calendar.specs.Days.{monthsInYear}
-use Rattle.lagoon.proofs.Conserved.{conserved, entered-at-most}
-use Rattle.lagoon.specs.Asks.{enteredMost, RunFits}
+use Rattle.run.proofs.Conserved.{conserved, entered-at-most}
+use Rattle.lagoon.specs.Asks.{enteredMost}
+use Rattle.run.specs.Asks.{RunFits}
 use Rattle.factor.specs.Rule.{million}
 use Rattle.lagoon.specs.Month.{emptyOf}
-use Rattle.lagoon.specs.Run.{runFrom, runOf, after, yearOf, monthsOf}
+use Rattle.run.specs.Run.{runFrom, runOf, after, yearOf, monthsOf}
 use Rattle.lagoon.specs.declared.Standing.{Standing}
-use Rattle.lagoon.specs.declared.Totals.{Totals}
+use Rattle.run.specs.declared.Totals.{Totals}
 use Rattle.keys.specs.Table.{lines, categories, months}
 use Rattle.book.specs.Valid.{Valid}
 use Rattle.slots.specs.Reads.{systemOf, lineOf, drainedOf}

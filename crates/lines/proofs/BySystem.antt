@@ -7,8 +7,8 @@ use mathlib.Core.Path.{sym, ap, _≡_, _∙_}
 use native.Mathlib.Nat.{not-suc-le-zero}
 use native.Mathlib.Omega.{arith}
 use borrow.Author.Tests.{eq-eqb, ne-eqb}
-use Rattle.lagoon.specs.Run.{yearOf}
-use Rattle.lagoon.specs.declared.Totals.{Totals}
+use Rattle.run.specs.Run.{yearOf}
+use Rattle.run.specs.declared.Totals.{Totals}
 use Rattle.slots.specs.Reads.{systemOf, lineOf}
 use Rattle.slots.specs.declared.Line.{Line}
 use Rattle.slots.specs.declared.Seen.{Seen}

@@ -9,9 +9,9 @@ use lib.ListN.{length, getD, set, replicate, length-set, length-replicate, getD-
 use lib.Seq.{getD-set-same, getD-set-other}
 use Rattle.units.specs.Grams.{solids}
 use Rattle.units.specs.declared.solids.Solids.{Solids}
-use Rattle.lagoon.proofs.Years.{joined}
+use Rattle.run.proofs.Years.{joined}
 use Rattle.lagoon.specs.Month.{emptyOf}
-use Rattle.lagoon.specs.Run.{runFrom, runOf, yearOf}
+use Rattle.run.specs.Run.{runFrom, runOf, yearOf}
 use Rattle.lagoon.specs.declared.Standing.{Standing}
 use Rattle.keys.specs.Table.{lines}
 use Rattle.slots.specs.Reads.{systemOf}

@@ -13,9 +13,9 @@ use Rattle.laws.proofs.Counting.{Each, sum-same}
 use Rattle.units.specs.declared.solids.Solids.{Solids}
 use Rattle.calendar.specs.Days.{monthsInYear, daysOf}
 use Rattle.lagoon.specs.Month.{enteredOf}
-use Rattle.lagoon.specs.Run.{yearOf}
+use Rattle.run.specs.Run.{yearOf}
 use Rattle.lagoon.specs.declared.Month.{Month}
-use Rattle.lagoon.specs.declared.Totals.{Totals}
+use Rattle.run.specs.declared.Totals.{Totals}
 use Rattle.keys.specs.Number.{recordBytes, numberAt, signedOf}
 use Rattle.keys.specs.Slot.{slotOf}
 use Rattle.keys.specs.Table.{yr, ln, hd, tp, dr}

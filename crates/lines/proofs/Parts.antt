@@ -5,9 +5,9 @@ use Prim.Native.Nat.{ℕ, _+_}
 use mathlib.Core.List.{List}
 use mathlib.Core.Path.{ap, _≡_}
 use Rattle.laws.proofs.Counting.{Each}
-use Rattle.lagoon.proofs.Demand3.{demand-3}
-use Rattle.lagoon.proofs.Parts.{Demand3, AddsUp}
-use Rattle.lagoon.specs.Run.{runOf}
+use Rattle.run.proofs.Demand3.{demand-3}
+use Rattle.run.proofs.Parts.{Demand3, AddsUp}
+use Rattle.run.specs.Run.{runOf}
 use Rattle.slots.specs.Reads.{temperatureOf, drainedOf}
 use Rattle.months.specs.Series.{factorBy, factorAt}
 use Rattle.lines.specs.Lines.{enteredAt, monthAt}

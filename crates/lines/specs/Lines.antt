@@ -5,7 +5,8 @@ use lib.Dec.{eqb}
 use Rattle.laws.specs.Counting.{sum}
 use Rattle.units.specs.{Grams.solids, Grams.co2e, Grams.shareOf, Grams.potential, Grams.b0RuleOf, declared.co2e.Co2e.Co2e, declared.solids.Solids.Solids}
 use Rattle.calendar.specs.Days.{monthsInYear}
-use Rattle.lagoon.specs.{Month.enteredOf, Run.yearOf, declared.Month.Month, declared.Totals.Totals}
+use Rattle.lagoon.specs.{Month.enteredOf, declared.Month.Month}
+use Rattle.run.specs.{Run.yearOf, declared.Totals.Totals}
 use Rattle.keys.specs.Table.{lines}
 use Rattle.slots.specs.Reads.{systemOf, lineOf, headOf, drainedOf}
 use Rattle.slots.specs.declared.{Line.Line, Seen.Seen, Seen.the-variants.Nothing, Seen.the-variants.Value}

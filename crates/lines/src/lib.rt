@@ -4,7 +4,7 @@ ghost use mathlib.Core.Path.{_≡_};
 ghost use mathlib.Core.Bool.{Bool, false};
 ghost use Prim.Native.Nat.{ℕ, _+_, _-_, _≤_, _<_, _^_};
 ghost use Rattle.calendar.specs.Days.{monthsInYear};
-ghost use Rattle.lagoon.specs.Run.{runOf, yearOf};
+ghost use Rattle.run.specs.Run.{runOf, yearOf};
 ghost use Rattle.lagoon.specs.Asks.{gramsMost};
 ghost use Rattle.keys.specs.Table.{lines, categories, months};
 ghost use Rattle.book.specs.Valid.{Valid};
@@ -14,8 +14,8 @@ ghost use Rattle.months.specs.Asks.{InPeriod, Holds};
 ghost use Rattle.lines.specs.Lines.{headAt, enteredAt, monthAt, nothing, baselineAlone, anaerobicOf, headsOf, otherOf, lineIn, plus, all, sumsOf};
 ghost use Rattle.lines.specs.Asks.{carriedBy, Carried, allGrams};
 use lagoon::Standing;
-use lagoon::Totals;
 use months::MONTHS_IN_YEAR;
+use run::Totals;
 use slots::Line;
 use slots::Seen;
 use units::Co2e;
@@ -140,7 +140,7 @@ fn solids(
 {
     let entered = entries(book, year, line, numbers, days);
     let drained = drains(book, year, line);
-    lagoon::run(from, &entered, factors, &drained)
+    run::run(from, &entered, factors, &drained)
 }
 
 // What a line enters, month by month of the year, in grams.

@@ -8,11 +8,11 @@ use lib.Ieee.{Float}
 use lib.IntN.{ℤ}
 use lib.ListN.{length}
 use Rattle.tonnes.specs.Tonnes.{netOf}
-use Rattle.lagoon.specs.Asks.{RunFits}
-use Rattle.lagoon.specs.Run.{runFrom, runOf, monthsOf}
+use Rattle.run.specs.Asks.{RunFits}
+use Rattle.run.specs.Run.{runFrom, runOf, monthsOf}
 use Rattle.lagoon.specs.declared.Month.{Month}
 use Rattle.lagoon.specs.declared.Standing.{Standing}
-use Rattle.lagoon.specs.declared.Totals.{Totals}
+use Rattle.run.specs.declared.Totals.{Totals}
 use Rattle.keys.specs.Table.{categories}
 use Rattle.book.specs.Book as Book
 use Rattle.book.specs.Valid.{Valid}

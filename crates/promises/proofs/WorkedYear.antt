@@ -16,9 +16,9 @@ use Rattle.units.specs.declared.solids.Solids.{Solids}
 use Rattle.calendar.specs.Days.{monthsInYear, leapOf, februaryOf, lengthsOf, lengthOf, goneOf, daysOf}
 use Rattle.factor.specs.Factor.{factorOf}
 use Rattle.lagoon.specs.Month.{enteredOf, outcomeOf}
-use Rattle.lagoon.specs.Run.{withOf, runFrom, yearOf}
+use Rattle.run.specs.Run.{withOf, runFrom, yearOf}
 use Rattle.lagoon.specs.declared.Month.{Month}
-use Rattle.lagoon.specs.declared.Totals.{Totals}
+use Rattle.run.specs.declared.Totals.{Totals}
 use Rattle.keys.specs.Table.{lines, ln}
 use Rattle.keys.specs.Slot.{slotOf}
 use Rattle.book.specs.Book.{recordAt}

@@ -8,15 +8,15 @@ use mathlib.Core.Bool.{Bool, true, false}
 use mathlib.Core.Path.{_≡_}
 use native.Mathlib.Nat.{le-dest}
 use native.Mathlib.Omega.{arith}
 use Rattle.lagoon.specs.declared.Month.{Month}
-use Rattle.lagoon.specs.declared.Totals.{Totals}
+use Rattle.run.specs.declared.Totals.{Totals}
 use Rattle.factor.specs.Rule.{million}
 use Rattle.lagoon.specs.Month.{emptyOf, outcomeOf}
-use Rattle.lagoon.specs.Run.{withOf, runFrom, runOf}
-use Rattle.lagoon.proofs.Parts.{Through, AddsUp, Demand3}
+use Rattle.run.specs.Run.{withOf, runFrom, runOf}
+use Rattle.run.proofs.Parts.{Through, AddsUp, Demand3}
 use Rattle.lagoon.proofs.Left.{left-split}
-use Rattle.lagoon.proofs.Same.{at, shared}
-use Rattle.lagoon.proofs.Conserved.{conserved}
+use Rattle.run.proofs.Same.{at, shared}
+use Rattle.run.proofs.Conserved.{conserved}
 
 -- what each month keeps of the whole beside its parts: it has removed and carries no more than they, and less by at most a gram a month
 record Beside (whole first second : Totals) (n : ℕ) : Type 0 where

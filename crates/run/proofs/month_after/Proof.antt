@@ -1,11 +1,11 @@
--- `lagoon::month_after` meets its contract: month 1 stands at place 0 of each slice.
+-- `run::month_after` meets its contract: month 1 stands at place 0 of each slice.
 -- Assumes nothing.
 use mathlib.Core.Path.{_≡_}
 use Prim.Native.Nat.{_+_, _-_}
 use native.Mathlib.Omega.{arith}
 use borrow.Author.Needs.{needs}
-use Rattle.lagoon.proofs.month_after.Statement.{statement}
-use Rattle.lagoon.proofs.month_after.Tie as tie
+use Rattle.run.proofs.month_after.Statement.{statement}
+use Rattle.run.proofs.month_after.Tie as tie
 
 mul-of-grams : tie.Need-mul-of-grams
 mul-of-grams c = search needs

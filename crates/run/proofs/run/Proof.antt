@@ -1,4 +1,4 @@
--- `lagoon::run` meets its contract: after so many months passed the totals are theirs, and have room for the next.
+-- `run::run` meets its contract: after so many months passed the totals are theirs, and have room for the next.
 -- Assumes nothing.
 use Prim.Native.Nat.{_≤_, _-_}
 use borrow.Author.Needs.{needs}
@@ -6,10 +6,10 @@ use denote.Ref.{now}
 use lib.ListN.{length}
 use mathlib.Core.Path.{_≡_, refl}
 use native.Mathlib.Omega.{arith}
-use Rattle.lagoon.specs.Run.{runFrom, monthsOf}
-use Rattle.lagoon.proofs.Runs.{begins, so-far, has-room, one-more}
-use Rattle.lagoon.proofs.run.Statement.{statement}
-use Rattle.lagoon.proofs.run.Tie as tie
+use Rattle.run.specs.Run.{runFrom, monthsOf}
+use Rattle.run.proofs.Runs.{begins, so-far, has-room, one-more}
+use Rattle.run.proofs.run.Statement.{statement}
+use Rattle.run.proofs.run.Tie as tie
 
 abbrev Inv-loop : tie.InvT-loop
 Inv-loop entered factors drained totals₀ passed₀ passed-end totals passed =

@@ -1,11 +1,11 @@
--- `lagoon::Totals::with` meets its contract: a month hands back no more than was available.
+-- `run::Totals::with` meets its contract: a month hands back no more than was available.
 -- Assumes nothing.
 use borrow.Author.Needs.{needs}
 use native.Mathlib.Omega.{arith}
-use Rattle.lagoon.specs.Run.{withOf}
-use Rattle.lagoon.proofs.Conserved.{told}
-use Rattle.lagoon.proofs.Totals.with.Statement.{statement}
-use Rattle.lagoon.proofs.Totals.with.Tie as tie
+use Rattle.run.specs.Run.{withOf}
+use Rattle.run.proofs.Conserved.{told}
+use Rattle.run.proofs.Totals.with.Statement.{statement}
+use Rattle.run.proofs.Totals.with.Tie as tie
 
 month-requires : tie.Need-month-requires
 month-requires c κs = search needs

@@ -1,8 +1,8 @@
--- `lagoon::Totals::start` meets its contract.
+-- `run::Totals::start` meets its contract.
 -- Assumes nothing.
 use borrow.Author.Needs.{needs}
-use Rattle.lagoon.proofs.Totals.start.Statement.{statement}
-use Rattle.lagoon.proofs.Totals.start.Tie as tie
+use Rattle.run.proofs.Totals.start.Statement.{statement}
+use Rattle.run.proofs.Totals.start.Tie as tie
 
 of-grams-requires : tie.Need-of-grams-requires
 of-grams-requires c κs = search needs

@@ -4,8 +4,8 @@ use Prim.Native.Nat.{ℕ}
 use mathlib.Core.Bool.{Bool}
 use mathlib.Core.Path.{_≡_}
 use Rattle.units.specs.Grams.{solids}
 use Rattle.lagoon.specs.declared.Month.{Month}
-use Rattle.lagoon.proofs.Parts.{SameLagoon}
+use Rattle.run.proofs.Parts.{SameLagoon}
 
 -- the month of a factor and a drain mark into which so much enters
 abbrev pub at : ℕ → Bool → ℕ → Month

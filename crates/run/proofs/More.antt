@@ -3,14 +3,14 @@
 use Prim.Native.Nat.{ℕ, zero, suc, _+_, _≤_}
 use mathlib.Core.Bool.{Bool, true, false}
 use native.Mathlib.Omega.{arith}
 use Rattle.lagoon.specs.declared.Month.{Month}
-use Rattle.lagoon.specs.declared.Totals.{Totals}
+use Rattle.run.specs.declared.Totals.{Totals}
 use Rattle.factor.specs.Rule.{million}
 use Rattle.lagoon.specs.Month.{outcomeOf}
-use Rattle.lagoon.specs.Run.{withOf, runFrom, runOf}
-use Rattle.lagoon.proofs.Parts.{Through, SameLagoon}
+use Rattle.run.specs.Run.{withOf, runFrom, runOf}
+use Rattle.run.proofs.Parts.{Through, SameLagoon}
 use Rattle.lagoon.proofs.Left.{left-more}
-use Rattle.lagoon.proofs.Same.{at, shared}
+use Rattle.run.proofs.Same.{at, shared}
 
 pub record EntersMore (less more : Month) : Type 0 where
   pub entered : less .entered .0 ≤ more .entered .0

@@ -10,17 +10,17 @@ use native.Mathlib.Omega.{arith}
 use lib.Dec.{eqb}
 use Rattle.units.specs.declared.solids.Solids.{Solids}
 use Rattle.units.specs.Grams.{solids, density, b0RuleOf}
 use Rattle.lagoon.specs.declared.Month.{Month}
-use Rattle.lagoon.specs.declared.Totals.{Totals}
+use Rattle.run.specs.declared.Totals.{Totals}
 use Rattle.factor.specs.Rule.{million}
 use Rattle.lagoon.specs.Month.{emptyOf, enteredOf, outcomeOf}
-use Rattle.lagoon.specs.Run.{withOf, runFrom, runOf, yearOf}
-use Rattle.lagoon.proofs.Parts.{Through, AddsUp}
-use Rattle.lagoon.proofs.Same.{at}
-use Rattle.lagoon.proofs.Conserved.{conserved}
-use Rattle.lagoon.proofs.Demand3.{demand-3, entered-adds-up}
-use Rattle.lagoon.proofs.More.{More, more-degrades}
-use Rattle.lagoon.proofs.Years.{joined}
+use Rattle.run.specs.Run.{withOf, runFrom, runOf, yearOf}
+use Rattle.run.proofs.Parts.{Through, AddsUp}
+use Rattle.run.proofs.Same.{at}
+use Rattle.run.proofs.Conserved.{conserved}
+use Rattle.run.proofs.Demand3.{demand-3, entered-adds-up}
+use Rattle.run.proofs.More.{More, more-degrades}
+use Rattle.run.proofs.Years.{joined}
 
 -- what a lagoon meets, month by month: the month's days, its factor, its drain mark
 pub record Lagoon : Type 0 where

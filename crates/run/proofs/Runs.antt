@@ -8,14 +8,15 @@ use native.Mathlib.Numerals.{add-one}
 use native.Mathlib.Nat.{mul-le-mul-right}
 use native.Mathlib.Omega.{arith}
 use lib.ListN.{length}
 use Rattle.lagoon.specs.declared.Month.{Month}
 use Rattle.lagoon.specs.declared.Standing.{Standing}
-use Rattle.lagoon.specs.declared.Totals.{Totals}
+use Rattle.run.specs.declared.Totals.{Totals}
 use Rattle.factor.specs.Rule.{million}
 use Rattle.lagoon.specs.Month.{availableOf}
-use Rattle.lagoon.specs.Run.{startOf, withOf, runFrom, monthsOf}
-use Rattle.lagoon.specs.Asks.{RunFits, enteredMost, gramsMost}
-use Rattle.lagoon.proofs.Conserved.{conserved, entered-at-most}
+use Rattle.run.specs.Run.{startOf, withOf, runFrom, monthsOf}
+use Rattle.lagoon.specs.Asks.{enteredMost, gramsMost}
+use Rattle.run.specs.Asks.{RunFits}
+use Rattle.run.proofs.Conserved.{conserved, entered-at-most}
 
 -- what a run's code asks of its totals before one month more
 pub record HasRoom (totals : Totals) (month : Month) : Type 0 where

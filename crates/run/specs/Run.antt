@@ -5,7 +5,8 @@ use mathlib.Core.{Bool.Bool, Bool.false, List.List}
 use lib.ListN.{getD}
 use Rattle.units.specs.Grams.{solids}
 use Rattle.calendar.specs.Days.{monthsInYear}
-use Rattle.lagoon.specs.{declared.Month.Month, declared.Standing.Standing, declared.Totals.Totals, Month.emptyOf, Month.outcomeOf}
+use Rattle.lagoon.specs.{declared.Month.Month, declared.Standing.Standing, Month.emptyOf, Month.outcomeOf}
+use Rattle.run.specs.declared.Totals.{Totals}
 
 -- no month yet
 abbrev pub startOf : Standing → Totals

@@ -5,15 +5,15 @@ use mathlib.Core.Bool.{Bool, true, false, cond}
 use mathlib.Core.Path.{_≡_}
 use native.Mathlib.Nat.{suc-mul}
 use native.Mathlib.Omega.{arith}
 use Rattle.lagoon.specs.declared.Month.{Month}
 use Rattle.lagoon.specs.declared.Outcome.{Outcome}
 use Rattle.lagoon.specs.declared.Standing.{Standing}
-use Rattle.lagoon.specs.declared.Totals.{Totals}
+use Rattle.run.specs.declared.Totals.{Totals}
 use Rattle.factor.specs.Rule.{million}
 use Rattle.lagoon.specs.Month.{outcomeOf, availableOf, leftOf}
-use Rattle.lagoon.specs.Run.{withOf, runFrom}
-use Rattle.lagoon.proofs.Parts.{Through}
+use Rattle.run.specs.Run.{withOf, runFrom}
+use Rattle.run.proofs.Parts.{Through}
 use Rattle.lagoon.proofs.Left.{degraded-le}
 
 either : (drained : Bool) (left : ℕ) → cond drained left 0 + cond drained 0 left ≡ left
 either true left = omega arith

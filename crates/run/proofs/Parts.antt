@@ -3,8 +3,8 @@
 -- Assumes nothing.
 use Prim.Native.Nat.{ℕ, _+_, _≤_}
 use mathlib.Core.Path.{_≡_}
 use Rattle.lagoon.specs.declared.Month.{Month}
-use Rattle.lagoon.specs.declared.Totals.{Totals}
+use Rattle.run.specs.declared.Totals.{Totals}
 
 -- in each of the months 1 to n
 abbrev pub Through : ℕ → (ℕ → Type 0) → Type 0

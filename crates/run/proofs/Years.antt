@@ -4,10 +4,10 @@ use Prim.Native.Nat.{ℕ, zero, suc, _+_}
 use mathlib.Core.Path.{_≡_, refl}
 use native.Mathlib.Nat.{add-zero, add-suc}
 use native.Mathlib.Omega.{arith}
 use Rattle.lagoon.specs.declared.Month.{Month}
 use Rattle.lagoon.specs.declared.Standing.{Standing}
-use Rattle.lagoon.specs.declared.Totals.{Totals}
-use Rattle.lagoon.specs.Run.{withOf, runFrom, after}
+use Rattle.run.specs.declared.Totals.{Totals}
+use Rattle.run.specs.Run.{withOf, runFrom, after}
 
 pub record Joined (all before rest : Totals) : Type 0 where
   pub entered : all .entered .0 ≡ before .entered .0 + rest .entered .0
