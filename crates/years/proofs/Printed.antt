@@ -16,9 +16,10 @@ use Rattle.book.specs.Run.{recordsFrom, recordsOf, onward, answerAll, bookAll}
 use Rattle.book.specs.declared.Posted.{Posted}
 use Rattle.book.specs.declared.Posted.the-variants.{Taken, Refused}
 use Rattle.page.specs.Line.{refusalLine}
-use Rattle.years.specs.declared.Ending.{Ending}
-use Rattle.years.specs.Output.{bookOf, endingBy, endingOf, endingLines, output}
-use Rattle.years.proofs.Posting.{after, stays, parts}
+use Rattle.feed.specs.declared.Ending.{Ending}
+use Rattle.feed.specs.Input.{bookOf, endingBy, endingOf}
+use Rattle.feed.proofs.Posting.{after, stays, parts}
+use Rattle.years.specs.Output.{endingLines, output}
 
 pub of-input : (input : List ℕ) {ending : Ending} {book : List ℕ} → ending ≡ endingOf input → book ≡ bookOf input → endingLines ending book ≡ output input
 unfolding output

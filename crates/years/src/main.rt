@@ -1,36 +1,16 @@
 // The year program: reads records from standard input, posts them, and prints the years of the book that they make
 // or the refusal that ended the reading.
-ghost use mathlib.Core.Path.{_≡_};
-ghost use Prim.Native.Nat.{_-_, _≤_};
+ghost use Prim.Native.Nat.{_≤_};
 ghost use lib.ListN.{length};
-ghost use Rattle.keys.specs.Number.{recordBytes};
-ghost use Rattle.book.specs.Book.{emptyBook};
-ghost use Rattle.book.specs.Run.{recordsOf, answerAll, bookAll};
 ghost use Rattle.book.specs.Valid.{Valid};
 ghost use Rattle.page.specs.Page.{Lays};
 ghost use Rattle.text.specs.Page.{pageBytes};
-ghost use Rattle.years.specs.Blocks.{wholeRecords, carried, blockBy, fedBy};
-ghost use Rattle.years.specs.Output.{endingBy, Comes, endingLines};
-use book::Posted;
-use input::Got;
-use keys::RECORD;
+ghost use Rattle.years.specs.Output.{endingLines};
+use feed::Ending;
 use libc::STDOUT_FILENO;
 
 // How many bytes are read at a time, at most: 4,096 records.
 const BLOCK: usize = 65_536;
-
-// How the reading ended: with the input's end, all records taken; at a refusal; or with a read that failed.
-enum Ending {
-    Ended,
-    Refused(u8, usize),
-    Failed,
-}
-
-// What posting a block came to: so many bytes of a record that the block's end cut are held for the next block.
-enum Fed {
-    Held(usize),
-    Refused(u8, usize),
-}
 
 // A read that fails never passes for the end of the input: nothing is printed then, and one line on standard error
 // says why.
@@ -38,7 +18,7 @@ fn main() {
     let mut book = [0u8; book::BYTES];
     book::empty(&mut book);
     let mut block = [0u8; BLOCK];
-    let ending = post_input(&mut book, &mut block);
+    let ending = feed::post_input(&mut book, &mut block);
     if let Ending::Failed = ending {
         os::fail(b"standard input");
         return;
@@ -47,74 +27,6 @@ fn main() {
     let end = lay_output(&book, ending, &mut page);
     if !io::write_all(STDOUT_FILENO, &page[..end]) {
         os::fail(b"standard output");
-    }
-}
-
-// Posts standard input to the empty book, block by block, until it ends or a record is refused. It needs no count of
-// its turns to end: a record taken fills a slot, and a book has only so many.
-fn post_input(book: &mut [u8], block: &mut [u8]) -> Ending
-    requires { ⌜ now book ≡ emptyBook ⌝ }
-    requires { ⌜ recordBytes ≤ length (now block) ⌝ }
-    ensures { λ r. ⌜ Comes r (now (book .exit)) ⌝ }
-    ensures { λ _. ⌜ Valid (now (book .exit)) ⌝ }
-{
-    let mut held = 0;
-    loop {
-        let Got::Bytes(count) = input::read_more(block, held) else {
-            return Ending::Failed;
-        };
-        if count == 0 {
-            return post_last(book, &block[..held]);
-        }
-        match post_block(book, block, held + count) {
-            Fed::Held(cut) => {
-                held = cut;
-            }
-            Fed::Refused(number, place) => {
-                return Ending::Refused(number, place);
-            }
-        }
-    }
-}
-
-// Posts the whole records among a block's first bytes, and carries the bytes of a cut one to its start.
-fn post_block(book: &mut [u8], block: &mut [u8], filled: usize) -> Fed
-    requires { ⌜ Valid (now book) ⌝ }
-    requires { ⌜ filled ≤ length (now block) ⌝ }
-    ensures { λ r. ⌜ r ≡ fedBy (answerAll (now (book .entry)) (wholeRecords (now (block .entry)) filled)) filled ⌝ }
-    ensures { λ _. ⌜ now (book .exit) ≡ bookAll (now (book .entry)) (wholeRecords (now (block .entry)) filled) ⌝ }
-    ensures { λ _. ⌜ now (block .exit) ≡ blockBy (answerAll (now (book .entry)) (wholeRecords (now (block .entry)) filled)) (now (block .entry)) filled ⌝ }
-{
-    let whole = filled / RECORD * RECORD;
-    match book::post_all(book, &block[..whole]) {
-        Posted::Taken => Fed::Held(carry(block, whole, filled)),
-        Posted::Refused(number, place) => Fed::Refused(number, place),
-    }
-}
-
-// Carries the bytes from one place to another to the block's start, and returns how many.
-fn carry(block: &mut [u8], from: usize, to: usize) -> usize
-    requires { ⌜ (from ≤ to) × (to ≤ length (now block)) ⌝ }
-    ensures { λ r. ⌜ r ≡ to - from ⌝ }
-    ensures { λ _. ⌜ now (block .exit) ≡ carried (now (block .entry)) from to ⌝ }
-{
-    let mut i = 0;
-    while from + i < to {
-        block[i] = block[from + i];
-        i += 1;
-    }
-    i
-}
-
-// Posts what is held at the input's end: nothing, or a record too short, which is refused.
-fn post_last(book: &mut [u8], last: &[u8]) -> Ending
-    requires { ⌜ Valid (now book) ⌝ }
-    ensures { λ r. ⌜ r ≡ endingBy (answerAll (now (book .entry)) (recordsOf (now (last .entry)))) ⌝ }
-    ensures { λ _. ⌜ now (book .exit) ≡ bookAll (now (book .entry)) (recordsOf (now (last .entry))) ⌝ }
-{
-    match book::post_all(book, last) {
-        Posted::Taken => Ending::Ended,
-        Posted::Refused(number, place) => Ending::Refused(number, place),
     }
 }
 

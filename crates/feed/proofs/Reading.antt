@@ -12,15 +12,15 @@ use Rattle.book.specs.Valid.{Valid}
 use Rattle.book.specs.declared.Posted.{Posted}
 use Rattle.book.specs.declared.Posted.the-variants.{Taken, Refused}
 use Rattle.book.proofs.Kept.{empty-valid}
-use Rattle.years.specs.Blocks.{wholeBytes, wholeRecords, carried, blockBy, fedBy}
-use Rattle.years.specs.Output.{bookOf, endingBy, endingOf, Comes, read}
-use Rattle.years.specs.declared.Fed.{Fed}
-use Rattle.years.specs.declared.Fed.the-variants.{Held, Refused as FedRefused}
-use Rattle.years.specs.declared.Ending.{Ending}
-use Rattle.years.specs.declared.Ending.the-variants.{Refused as EndingRefused}
-use Rattle.years.proofs.Carrying.{held}
-use Rattle.years.proofs.Posting.{kept-all, after, stays, many, parts}
-use Rattle.years.proofs.Slots.{freeSlots, fills-all}
+use Rattle.feed.specs.Blocks.{wholeBytes, wholeRecords, carried, blockBy, fedBy}
+use Rattle.feed.specs.Input.{bookOf, endingBy, endingOf, Comes, read}
+use Rattle.feed.specs.declared.Fed.{Fed}
+use Rattle.feed.specs.declared.Fed.the-variants.{Held, Refused as FedRefused}
+use Rattle.feed.specs.declared.Ending.{Ending}
+use Rattle.feed.specs.declared.Ending.the-variants.{Refused as EndingRefused}
+use Rattle.feed.proofs.Carrying.{held}
+use Rattle.feed.proofs.Posting.{kept-all, after, stays, many, parts}
+use Rattle.feed.proofs.Slots.{freeSlots, fills-all}
 
 pub record Reading (book block : List ℕ) (cut : ℕ) : Type 0 where
   pub input : List ℕ

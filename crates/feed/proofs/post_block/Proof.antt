@@ -3,11 +3,11 @@ use mathlib.Core.Path.{sym, ap, _∙_}
 use native.Mathlib.Omega.{arith}
 use borrow.Author.Needs.{needs}
 use lib.Seq.{length-take-le}
-use Rattle.years.specs.declared.Fed.the-variants.{Held}
-use Rattle.years.specs.Blocks.{wholeRecords, fedBy, blockBy}
+use Rattle.feed.specs.declared.Fed.the-variants.{Held}
+use Rattle.feed.specs.Blocks.{wholeRecords, fedBy, blockBy}
 use Rattle.book.specs.declared.Posted.{Posted}
-use Rattle.years.proofs.post_block.Statement.{statement}
-use Rattle.years.proofs.post_block.Tie as tie
+use Rattle.feed.proofs.post_block.Statement.{statement}
+use Rattle.feed.proofs.post_block.Tie as tie
 
 mul-whole : tie.Need-mul-whole
 mul-whole c = search needs

@@ -7,12 +7,12 @@ use borrow.Author.Needs.{needs}
 use lib.ListN.{length}
 use lib.Seq.{length-take-le}
 use Rattle.input.proofs.Within.{given}
-use Rattle.years.specs.Output.{unread}
-use Rattle.years.specs.declared.Fed.the-variants.{Held}
-use Rattle.years.proofs.Posting.{kept-all}
-use Rattle.years.proofs.Reading.{Reading, begin, valid, left, ended, onwards, stopped}
-use Rattle.years.proofs.post_input.Statement.{statement}
-use Rattle.years.proofs.post_input.Tie as tie
+use Rattle.feed.specs.Input.{unread}
+use Rattle.feed.specs.declared.Fed.the-variants.{Held}
+use Rattle.feed.proofs.Posting.{kept-all}
+use Rattle.feed.proofs.Reading.{Reading, begin, valid, left, ended, onwards, stopped}
+use Rattle.feed.proofs.post_input.Statement.{statement}
+use Rattle.feed.proofs.post_input.Tie as tie
 
 abbrev Inv-loop : tie.InvT-loop
 Inv-loop book₀ block₀ held₀ book block held = (Reading book block held) × (length book ≡ length book₀) × (length block ≡ length block₀)

@@ -21,7 +21,7 @@ use Rattle.book.proofs.Filling.{slot-same, slot-other}
 use Rattle.book.proofs.Free.{free-same}
 use Rattle.book.proofs.Kept.{kept}
 use Rattle.book.proofs.Letters.{held-filled}
-use Rattle.years.proofs.Posting.{other}
+use Rattle.feed.proofs.Posting.{other}
 
 -- at how many places below n a test passes
 unfoldable pub count : (ℕ → Bool) → ℕ → ℕ

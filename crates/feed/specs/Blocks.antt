@@ -5,7 +5,7 @@ use mathlib.Core.List.{List, _++_}
 use lib.ListN.{take, drop}
 use Rattle.keys.specs.Number.{recordBytes}
 use Rattle.book.specs.{Run.recordsOf, declared.Posted.Posted, declared.Posted.the-variants.Taken, declared.Posted.the-variants.Refused as RefusedRecord}
-use Rattle.years.specs.declared.Fed.{Fed, the-variants.Held, the-variants.Refused}
+use Rattle.feed.specs.declared.Fed.{Fed, the-variants.Held, the-variants.Refused}
 
 -- how many of n bytes are whole records, and those records among a block's first n bytes
 abbrev pub wholeBytes : ℕ → ℕ

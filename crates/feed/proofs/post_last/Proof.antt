@@ -1,9 +1,9 @@
 -- The ending is what posting answers. Assumes nothing.
 use mathlib.Core.Path.{sym, ap, _∙_}
 use borrow.Author.Needs.{needs}
-use Rattle.years.specs.Output.{endingBy}
-use Rattle.years.proofs.post_last.Statement.{statement}
-use Rattle.years.proofs.post_last.Tie as tie
+use Rattle.feed.specs.Input.{endingBy}
+use Rattle.feed.proofs.post_last.Statement.{statement}
+use Rattle.feed.proofs.post_last.Tie as tie
 
 post-all-requires : tie.Need-post-all-requires
 post-all-requires c κs = search needs

@@ -6,7 +6,7 @@ use native.Mathlib.Numerals.{add-one}
 use native.Mathlib.Omega.{arith}
 use lib.ListN.{length, getD, set, take, drop, length-append, length-take, length-drop}
 use lib.Seq.{append-snoc, drop-cons, getD-append-add, getD-drop, length-take-le, set-at, take-at, take-suc}
-use Rattle.years.specs.Blocks.{carried}
+use Rattle.feed.specs.Blocks.{carried}
 
 -- the first i bytes of them are carried
 unfoldable pub begun : List ℕ → ℕ → ℕ → List ℕ

@@ -4,9 +4,9 @@ use mathlib.Core.List.{List}
 use Prim.Native.Nat.{ℕ, _+_, _-_, _≤_}
 use native.Mathlib.Omega.{arith}
 use lib.ListN.{length, getD, set}
-use Rattle.years.proofs.Carrying.{begun, none, all, size, one-more}
-use Rattle.years.proofs.carry.Statement.{statement}
-use Rattle.years.proofs.carry.Tie as tie
+use Rattle.feed.proofs.Carrying.{begun, none, all, size, one-more}
+use Rattle.feed.proofs.carry.Statement.{statement}
+use Rattle.feed.proofs.carry.Tie as tie
 
 abbrev Inv-loop : tie.InvT-loop
 Inv-loop block₀ from to i₀ block i = (from + i ≤ to) × (block ≡ begun block₀ from i)
