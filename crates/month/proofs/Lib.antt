@@ -1,3 +1,1 @@
 pub mod Determined
-pub mod Floats
-pub mod Long

@@ -1,6 +1,6 @@
 // One meter month from standard input, to one line on standard output: `destroyed N`, or `refused N at P`.
 //
-// The input is read until it ends, or until it is longer than any month: what would follow changes nothing (`proofs/Long.antt`). A read that
+// The input is read until it ends, or until it is longer than any month: what would follow changes nothing (`proofs/Long.antt` of `format`). A read that
 // fails is not taken for the input's end: it is told on standard error, and no figure is printed.
 ghost use lib.ListN.{length};
 ghost use Rattle.input.specs.Got.{Room};
@@ -8,7 +8,6 @@ use input::Got;
 use libc::STDOUT_FILENO;
 use meter::MonthAnswer;
 
-mod format;
 mod line;
 
 // One byte more than the longest month has.

@@ -9,9 +9,9 @@ use lib.Ieee.{nan}
 use lib.ListN.{length, getD, set, length-set}
 use lib.Seq.{getD-set-same, getD-set-other}
 use Rattle.series.specs.Series.{mostHours}
-use Rattle.month.proofs.Floats.{floatAt, floats-first}
-use Rattle.month.proofs.format.floats.Statement.{statement}
-use Rattle.month.proofs.format.floats.Tie as tie
+use Rattle.format.proofs.EachFloat.{floatAt, floats-first}
+use Rattle.format.proofs.floats.Statement.{statement}
+use Rattle.format.proofs.floats.Tie as tie
 
 abbrev Inv-loop : tie.InvT-loop
 Inv-loop input at count out₀ i₀ out i = (i ≤ count) × (length out ≡ mostHours) × ((k : ℕ) → k < i → getD out k nan ≡ floatAt input (at + 4 * k))

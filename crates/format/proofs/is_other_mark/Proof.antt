@@ -4,8 +4,8 @@ use Prim.Native.Char.{code}
 use borrow.Author.Tests.{lt-leb, le-leb, eq-eqb, ne-eqb}
 use lib.ListN.{length, getD}
 use borrow.Author.Needs.{needs}
-use Rattle.month.proofs.format.is_other_mark.Statement.{statement}
-use Rattle.month.proofs.format.is_other_mark.Tie as tie
+use Rattle.format.proofs.is_other_mark.Statement.{statement}
+use Rattle.format.proofs.is_other_mark.Tie as tie
 
 returns : tie.Need-returns
 returns c = rw (lt-leb 2 (length (c .before .args .input .now)) (c .if1 .taken))

@@ -4,12 +4,12 @@ use mathlib.Core.Path.{sym}
 use Prim.Native.Nat.{_+_, _*_}
 use native.Mathlib.Omega.{arith}
 use lib.Seq.{length-take-le}
-use Rattle.month.specs.Format.{lentOf}
-use Rattle.month.proofs.Floats.{rest}
-use Rattle.month.proofs.Long.{lent-none}
+use Rattle.format.specs.Format.{lentOf}
+use Rattle.format.proofs.EachFloat.{rest}
+use Rattle.format.proofs.Long.{lent-none}
 use borrow.Author.Needs.{needs}
-use Rattle.month.proofs.format.lent.Statement.{statement}
-use Rattle.month.proofs.format.lent.Tie as tie
+use Rattle.format.proofs.lent.Statement.{statement}
+use Rattle.format.proofs.lent.Tie as tie
 
 returns : tie.Need-returns
 returns c =

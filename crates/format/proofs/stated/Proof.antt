@@ -6,10 +6,10 @@ use native.Mathlib.Omega.{arith}
 use borrow.Author.Tests.{lt-leb, le-leb, eq-eqb, ne-eqb}
 use lib.ListN.{length}
 use Rattle.keys.specs.Number.{numberAt}
-use Rattle.month.specs.Format.{statedOf}
+use Rattle.format.specs.Format.{statedOf}
 use borrow.Author.Needs.{needs}
-use Rattle.month.proofs.format.stated.Statement.{statement}
-use Rattle.month.proofs.format.stated.Tie as tie
+use Rattle.format.proofs.stated.Statement.{statement}
+use Rattle.format.proofs.stated.Tie as tie
 
 is-other-mark-requires : tie.Need-is-other-mark-requires
 is-other-mark-requires c κs = search needs

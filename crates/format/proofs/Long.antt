@@ -16,8 +16,8 @@ use Rattle.meter.specs.declared.MonthAnswer.{MonthAnswer}
 use Rattle.meter.specs.declared.MonthAnswer.the-variants.{Refused}
 use Rattle.meter.specs.Month.{areHours, monthOf}
 use Rattle.meter.proofs.Hours.{as-long}
-use Rattle.month.specs.Format.{isOtherMark, floatsAt, lentOf, isWhole, statedOf}
-use Rattle.month.proofs.Floats.{floats-length}
+use Rattle.format.specs.Format.{isOtherMark, floatsAt, lentOf, isWhole, statedOf}
+use Rattle.format.proofs.EachFloat.{floats-length}
 
 -- what is no month is refused 10
 not-hours : (b : Bool) (f c s : ℕ) → areHours f c s ≡ b → ((f ≡ s) × (c ≡ s) × (s ≤ mostHours) → ⊥) → b ≡ false

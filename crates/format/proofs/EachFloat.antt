@@ -8,7 +8,7 @@ use lib.Ieee.{Float, nan, binary32, ofBits}
 use lib.ListN.{length, getD, take, drop, length-drop}
 use lib.Seq.{ext-getD, getD-take, length-take-le, take-length}
 use Rattle.keys.specs.Number.{numberAt}
-use Rattle.month.specs.Format.{floatsAt}
+use Rattle.format.specs.Format.{floatsAt}
 
 -- the float of the four bytes from `at` on
 abbrev pub floatAt : List ℕ → ℕ → Float
