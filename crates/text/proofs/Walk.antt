@@ -12,7 +12,8 @@ use Rattle.year.specs.Answer.{answerOf}
 use Rattle.page.specs.Page.{Lays}
 use Rattle.page.specs.Line.{refusalLine}
 use Rattle.page.proofs.Laying.{joined, laid-length, laid-none}
-use Rattle.text.specs.Lines.{yearLines, answerLines, yearsFrom, printed}
+use Rattle.stated.specs.Lines.{yearLines}
+use Rattle.text.specs.Lines.{answerLines, yearsFrom, printed}
 use Rattle.text.specs.Page.{yearBytes, pageBytes}
 
 -- the lines of a year and of those after it

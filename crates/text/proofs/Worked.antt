@@ -8,7 +8,8 @@ use Rattle.year.specs.declared.Figures.{Figures}
 use Rattle.year.specs.declared.Answer.the-variants.{Stated, Refused}
 use Rattle.page.specs.Number.{word, lastDigits, decimal, signed}
 use Rattle.page.specs.Line.{refusalLine}
-use Rattle.text.specs.Lines.{yearLine, solidsLine, gramsLine, tonnesLine, yearLines, answerLines}
+use Rattle.stated.specs.Lines.{yearLine, solidsLine, gramsLine, tonnesLine, yearLines}
+use Rattle.text.specs.Lines.{answerLines}
 
 abbrev pub worked : Figures
 worked =

@@ -1,11 +1,11 @@
 -- The line's five texts are laid one after the other. Assumes nothing.
 use native.Mathlib.Omega.{arith}
 use borrow.Author.Needs.{needs}
-use Rattle.text.specs.Lines.{solidsLine}
+use Rattle.stated.specs.Lines.{solidsLine}
 use Rattle.page.proofs.Laying.{joined}
-use Rattle.text.proofs.Lengths.{solids-length}
-use Rattle.text.proofs.lay_solids_line.Statement.{statement}
-use Rattle.text.proofs.lay_solids_line.Tie as tie
+use Rattle.stated.proofs.Lengths.{solids-length}
+use Rattle.stated.proofs.lay_solids_line.Statement.{statement}
+use Rattle.stated.proofs.lay_solids_line.Tie as tie
 
 slice-aggregate-lay-solids : tie.Need-slice-aggregate-lay-solids
 slice-aggregate-lay-solids c = search needs

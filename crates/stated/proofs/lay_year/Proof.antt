@@ -1,11 +1,11 @@
 -- The four lines are laid one after the other. Assumes nothing.
 use native.Mathlib.Omega.{arith}
 use borrow.Author.Needs.{needs}
-use Rattle.text.specs.Lines.{yearLines}
+use Rattle.stated.specs.Lines.{yearLines}
 use Rattle.page.proofs.Laying.{joined}
-use Rattle.text.proofs.Lengths.{lines-length}
-use Rattle.text.proofs.lay_year.Statement.{statement}
-use Rattle.text.proofs.lay_year.Tie as tie
+use Rattle.stated.proofs.Lengths.{lines-length}
+use Rattle.stated.proofs.lay_year.Statement.{statement}
+use Rattle.stated.proofs.lay_year.Tie as tie
 
 lay-year-line-requires : tie.Need-lay-year-line-requires
 lay-year-line-requires c κs = let s = c .before .before in omega (arith, lines-length (s .args .year) (s .args .figures))

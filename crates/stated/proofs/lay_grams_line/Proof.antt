@@ -1,11 +1,11 @@
 -- The line's four texts are laid one after the other. Assumes nothing.
 use native.Mathlib.Omega.{arith}
 use borrow.Author.Needs.{needs}
-use Rattle.text.specs.Lines.{gramsLine}
+use Rattle.stated.specs.Lines.{gramsLine}
 use Rattle.page.proofs.Laying.{joined}
-use Rattle.text.proofs.Lengths.{grams-length}
-use Rattle.text.proofs.lay_grams_line.Statement.{statement}
-use Rattle.text.proofs.lay_grams_line.Tie as tie
+use Rattle.stated.proofs.Lengths.{grams-length}
+use Rattle.stated.proofs.lay_grams_line.Statement.{statement}
+use Rattle.stated.proofs.lay_grams_line.Tie as tie
 
 slice-aggregate-lay-co2e : tie.Need-slice-aggregate-lay-co2e
 slice-aggregate-lay-co2e c = search needs

@@ -1,7 +1,7 @@
 -- What `grams` reads is the unit's own number. Assumes nothing.
 use borrow.Author.Needs.{needs}
-use Rattle.text.proofs.lay_co2e.Statement.{statement}
-use Rattle.text.proofs.lay_co2e.Tie as tie
+use Rattle.stated.proofs.lay_co2e.Statement.{statement}
+use Rattle.stated.proofs.lay_co2e.Tie as tie
 
 grams-requires : tie.Need-grams-requires
 grams-requires c κs = search needs

@@ -7,11 +7,11 @@ use lib.ListN.{length}
 use mir.Syntax.{w64}
 use mir.Val.{toZ, ofZ}
 use Rattle.page.specs.Number.{signed}
-use Rattle.text.specs.Lines.{tonnesLine}
+use Rattle.stated.specs.Lines.{tonnesLine}
 use Rattle.page.proofs.Laying.{joined}
-use Rattle.text.proofs.Lengths.{tonnes-length}
-use Rattle.text.proofs.lay_tonnes_line.Statement.{statement}
-use Rattle.text.proofs.lay_tonnes_line.Tie as tie
+use Rattle.stated.proofs.Lengths.{tonnes-length}
+use Rattle.stated.proofs.lay_tonnes_line.Statement.{statement}
+use Rattle.stated.proofs.lay_tonnes_line.Tie as tie
 
 held : (s : tie.Start) → toZ w64 (ofZ w64 (s .args .figures .net)) ≡ s .args .figures .net
 held s = search needs

@@ -1,11 +1,11 @@
 -- The line's two texts are laid one after the other. Assumes nothing.
 use native.Mathlib.Omega.{arith}
 use borrow.Author.Needs.{needs}
-use Rattle.text.specs.Lines.{yearLine}
+use Rattle.stated.specs.Lines.{yearLine}
 use Rattle.page.proofs.Laying.{joined}
-use Rattle.text.proofs.Lengths.{year-length}
-use Rattle.text.proofs.lay_year_line.Statement.{statement}
-use Rattle.text.proofs.lay_year_line.Tie as tie
+use Rattle.stated.proofs.Lengths.{year-length}
+use Rattle.stated.proofs.lay_year_line.Statement.{statement}
+use Rattle.stated.proofs.lay_year_line.Tie as tie
 
 slice-aggregate-lay-figure : tie.Need-slice-aggregate-lay-figure
 slice-aggregate-lay-figure c = search needs
