@@ -1,5 +1,7 @@
 -- The year's own answer, handed over. Assumes nothing.
+use mathlib.Core.Path.{sym, ap, _∙_}
 use borrow.Author.Needs.{needs}
+use Rattle.cabinet.specs.Face.{yearOf}
 use Rattle.cabinet.proofs.cabinet_year.Statement.{statement}
 use Rattle.cabinet.proofs.cabinet_year.Tie as tie
 
@@ -19,10 +21,10 @@ refused-requires : tie.Need-refused-requires
 refused-requires c κs = search needs
 
 returns : tie.Need-returns
-returns c = cc
+returns c = c .stated .ensures ∙ ap yearOf (sym (c .before .before .figures .given .1) ∙ c .before .before .before .before .year .ensures)
 
 returns-2 : tie.Need-returns-2
-returns-2 c = cc
+returns-2 c = c .refused .ensures ∙ ap yearOf (sym (c .before .before .number .given .1) ∙ c .before .before .before .before .year .ensures)
 
 pub cabinet-year-spec : {M : Type 1} → statement M
 cabinet-year-spec =
