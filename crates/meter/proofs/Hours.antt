@@ -1,9 +1,9 @@
--- The hours of a month: what the match on their number says, and what lists that are as long as a month are.
+-- The hours of a month: what the match on their number says, what lists that are as long as a month are, and the steps of a loop over them.
 -- Assumes nothing.
-use Prim.Native.Nat.{ℕ, _≤_}
+use Prim.Native.Nat.{ℕ, _+_, _-_, _≤_, _<_}
 use mathlib.Core.Bool.{Bool, true, false, _&&_, _||_, false≢true}
 use mathlib.Core.Logic.{_⊎_, inl, inr}
-use mathlib.Core.Path.{_≡_, refl}
+use mathlib.Core.Path.{_≡_, refl, sym, subst}
 use native.Mathlib.Omega.{arith}
 use borrow.Author.Tests.{ne-eqb, eqb-true}
 use lib.Dec.{eqb}
@@ -54,3 +54,18 @@ as-long f c n e =
       eqb-true c n (and-r (eqb f n) (eqb c n) both),
       month-most n (and-r (eqb f n && eqb c n) (isMonth n) e),
     )
+
+module _ {hour hours : ℕ} (inside : hour < hours) where
+  pub reached : hour + 1 ≤ hours
+  reached = omega arith
+
+  pub nearer : hours - (hour + 1) < hours - hour
+  nearer = omega arith
+
+-- an hour among those of another list, as long
+pub among : {hour hours others : ℕ} → others ≡ hours → hour < hours → hour < others
+among {hour} e h = subst (λ (n : ℕ). hour < n) (sym e) h
+
+-- a list that is written to still holds the month
+pub holds : {hours most size : ℕ} → hours ≤ most → size ≡ most → hours ≤ size
+holds {hours} h e = subst (λ (n : ℕ). hours ≤ n) (sym e) h

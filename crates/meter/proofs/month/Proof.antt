@@ -3,7 +3,7 @@
 -- Assumes nothing.
 use mathlib.Core.Path.{refl, sym, _∙_, subst}
 use Prim.Native.Nat.{ℕ, _≤_}
-use native.Mathlib.Omega.{arith}
+use native.Mathlib.Nat.{lt-of-lt-of-le}
 use lib.ListN.{length}
 use lib.Seq.{length-take-le}
 use borrow.Author.Tests.{lt-ltb, le-ltb, not-true, not-false}
@@ -14,7 +14,7 @@ use Rattle.hour.specs.Hour.{flowOf, contentOf}
 use Rattle.hour.specs.Room.{mostFlow, mostContent}
 use Rattle.hour.proofs.Sizes.{flows-small, contents-small}
 use Rattle.meter.specs.Month.{meteredOf, monthOf}
-use Rattle.meter.proofs.Hours.{as-long}
+use Rattle.meter.proofs.Hours.{as-long, holds}
 use Rattle.meter.proofs.Readings.{cut}
 use borrow.Author.Needs.{needs}
 use Rattle.meter.proofs.month.Statement.{statement}
@@ -58,28 +58,28 @@ array-share-prefix-litres c =
     let a = c .before .before .before .before .before .before .before .before .before .before .before .before .args in
     let r = as-long (length (a .flows .now)) (length (a .contents .now)) (length (a .states .now)) (sym (c .before .before .before .before .before .before .before .before .are-hours .ensures) ∙ not-false _ (c .before .before .before .before .before .before .before .if1 .left)) in
     let laid = c .before .before .before .record-hours in
-    omega (arith, r .2, laid .kept .1 .1 .1 .0)
+    holds (r .2) (laid .kept .1 .1 .1 .0)
 
 slice-aggregate-destroyed : tie.Need-slice-aggregate-destroyed
 slice-aggregate-destroyed c =
     let a = c .before .before .before .before .before .before .before .before .before .before .before .before .before .args in
     let r = as-long (length (a .flows .now)) (length (a .contents .now)) (length (a .states .now)) (sym (c .before .before .before .before .before .before .before .before .before .are-hours .ensures) ∙ not-false _ (c .before .before .before .before .before .before .before .before .if1 .left)) in
     let laid = c .before .before .before .before .record-hours in
-    sym (length-take-le (length (a .states .now)) (laid .last .1 .1 .1 .0) (omega (arith, r .2, laid .kept .1 .1 .1 .0)))
+    sym (length-take-le (length (a .states .now)) (laid .last .1 .1 .1 .0) (holds (r .2) (laid .kept .1 .1 .1 .0)))
 
 array-share-prefix-hundredths : tie.Need-array-share-prefix-hundredths
 array-share-prefix-hundredths c =
     let a = c .before .before .before .before .before .before .before .before .before .before .before .before .before .args in
     let r = as-long (length (a .flows .now)) (length (a .contents .now)) (length (a .states .now)) (sym (c .before .before .before .before .before .before .before .before .before .are-hours .ensures) ∙ not-false _ (c .before .before .before .before .before .before .before .before .if1 .left)) in
     let laid = c .before .before .before .before .record-hours in
-    omega (arith, r .2, laid .kept .1 .1 .1 .1 .0)
+    holds (r .2) (laid .kept .1 .1 .1 .1 .0)
 
 slice-aggregate-destroyed-2 : tie.Need-slice-aggregate-destroyed-2
 slice-aggregate-destroyed-2 c =
     let a = c .before .before .before .before .before .before .before .before .before .before .before .before .before .before .args in
     let r = as-long (length (a .flows .now)) (length (a .contents .now)) (length (a .states .now)) (sym (c .before .before .before .before .before .before .before .before .before .before .are-hours .ensures) ∙ not-false _ (c .before .before .before .before .before .before .before .before .before .if1 .left)) in
     let laid = c .before .before .before .before .before .record-hours in
-    sym (length-take-le (length (a .states .now)) (laid .last .1 .1 .1 .1 .0) (omega (arith, r .2, laid .kept .1 .1 .1 .1 .0)))
+    sym (length-take-le (length (a .states .now)) (laid .last .1 .1 .1 .1 .0) (holds (r .2) (laid .kept .1 .1 .1 .1 .0)))
 
 destroyed-requires : tie.Need-destroyed-requires
 destroyed-requires c κs =
@@ -89,11 +89,11 @@ destroyed-requires c κs =
     let n = length (a .states .now) in
     let L = laid .last .1 .1 .1 .0 in
     let H = laid .last .1 .1 .1 .1 .0 in
-    let long : n ≤ length L = omega (arith, r .2, laid .kept .1 .1 .1 .0) in
-    let long' : n ≤ length H = omega (arith, r .2, laid .kept .1 .1 .1 .1 .0) in
+    let long : n ≤ length L = holds (r .2) (laid .kept .1 .1 .1 .0) in
+    let long' : n ≤ length H = holds (r .2) (laid .kept .1 .1 .1 .1 .0) in
     let passed : n ≤ laid .result = c .before .before .if3 .left in
-    let f = cut flowOf (a .flows .now) (a .contents .now) (a .states .now) refl L long (λ h b. laid .ensures .1 .0 h (omega arith)) in
-    let g = cut contentOf (a .flows .now) (a .contents .now) (a .states .now) refl H long' (λ h b. laid .ensures .1 .1 h (omega arith)) in (
+    let f = cut flowOf (a .flows .now) (a .contents .now) (a .states .now) refl L long (λ h b. laid .ensures .1 .0 h (lt-of-lt-of-le b passed)) in
+    let g = cut contentOf (a .flows .now) (a .contents .now) (a .states .now) refl H long' (λ h b. laid .ensures .1 .1 h (lt-of-lt-of-le b passed)) in (
       (length-take-le n L long, length-take-le n H long', r .2, c .before .before .before .before .before .before .before .before .if2 .left),
       (
         (λ h. subst (λ (l : ℕ → Value). amount (l h) ≤ mostFlow CubicMetres) (sym f) (flows-small (a .flows .now) (a .contents .now) (a .states .now) h)),
@@ -117,8 +117,8 @@ returns-4 c =
       ← laid .ensures .0,
       le-ltb _ _ passed,
       c .destroyed .ensures,
-      cut flowOf (a .flows .now) (a .contents .now) (a .states .now) refl L (omega (arith, r .2, laid .kept .1 .1 .1 .0)) (λ h b. laid .ensures .1 .0 h (omega arith)),
-      cut contentOf (a .flows .now) (a .contents .now) (a .states .now) refl H (omega (arith, r .2, laid .kept .1 .1 .1 .1 .0)) (λ h b. laid .ensures .1 .1 h (omega arith)),
+      cut flowOf (a .flows .now) (a .contents .now) (a .states .now) refl L (holds (r .2) (laid .kept .1 .1 .1 .0)) (λ h b. laid .ensures .1 .0 h (lt-of-lt-of-le b passed)),
+      cut contentOf (a .flows .now) (a .contents .now) (a .states .now) refl H (holds (r .2) (laid .kept .1 .1 .1 .1 .0)) (λ h b. laid .ensures .1 .1 h (lt-of-lt-of-le b passed)),
     )
 
 pub month-spec : {M : Type 1} → statement M
