@@ -9,7 +9,8 @@ use lib.ListN.{replicate}
 use Rattle.units.specs.Grams.{methane}
 use Rattle.keys.specs.Number.{numberAt}
 use Rattle.keys.specs.Slot.{count, index, total, slotOf}
-use Rattle.records.specs.Record.{inRange, nonzeroAt, nonzeroIn, outsideIn, keyIn, rowIn, rowOf, keyOf, verdict, judgedAs, judged}
+use Rattle.fields.specs.Entry.{inRange, nonzeroAt}
+use Rattle.records.specs.Record.{nonzeroIn, outsideIn, keyIn, rowIn, rowOf, keyOf, verdict, judgedAs, judged}
 use Rattle.records.specs.declared.Judged.the-variants.{Fill}
 use Rattle.records.proofs.Taken.{taken}
 use Rattle.records.proofs.Keys.{slot-below}

@@ -12,7 +12,7 @@ use Rattle.keys.specs.Table.{from, unless, signed, Entry, zeros, field, lines, 
 use Rattle.keys.specs.Number.{signedOf}
 use Rattle.keys.specs.Slot.{slotOf}
 use Rattle.keys.proofs.Slots.{Low}
-use Rattle.records.specs.Record.{inRange}
+use Rattle.fields.specs.Entry.{inRange}
 use Rattle.records.proofs.Keys.{within}
 use Rattle.book.specs.Book.{recordAt}
 use Rattle.book.specs.Valid.{Valid}

@@ -13,7 +13,8 @@ use Rattle.keys.specs.Table.{Range, Entry, zeros, field, table, highestOf, entr
 use Rattle.keys.specs.Number.{recordBytes, afterMark, numberAt}
 use Rattle.keys.specs.Slot.{slots, slotOf}
 use Rattle.keys.proofs.Slots.{Low, among, among-all, one-row}
-use Rattle.records.specs.Record.{inRange, rowOf}
+use Rattle.fields.specs.Entry.{inRange}
+use Rattle.records.specs.Record.{rowOf}
 use Rattle.records.proofs.Taken.{taken}
 use Rattle.records.proofs.Entries.{Ranged}
 use Rattle.records.proofs.Keys.{there, fields}

@@ -1,6 +1,6 @@
 // What stands in a book, for the year: each field of each mark.
+use fields::Field;
 use records::table;
-use records::table::Field;
 ghost use mathlib.Core.Path.{_≡_};
 ghost use mathlib.Core.Bool.{not};
 ghost use mathlib.Core.List.{[], _∷_};

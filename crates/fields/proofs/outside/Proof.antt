@@ -1,12 +1,12 @@
--- `records::outside` meets its contract: the test picks the case. Assumes nothing.
+-- `fields::outside` meets its contract: the test picks the case. Assumes nothing.
 use mathlib.Core.Path.{sym, ap, _∙_}
 use mathlib.Core.Bool.{Bool, cond, _&&_}
 use Prim.Native.Nat.{ℕ}
 use lib.Dec.{leb}
 use borrow.Author.Needs.{needs}
-use Rattle.records.specs.Record.{inRange}
-use Rattle.records.proofs.outside.Statement.{statement}
-use Rattle.records.proofs.outside.Tie as tie
+use Rattle.fields.specs.Entry.{inRange}
+use Rattle.fields.proofs.outside.Statement.{statement}
+use Rattle.fields.proofs.outside.Tie as tie
 
 number-requires : tie.Need-number-requires
 number-requires c κs = search needs

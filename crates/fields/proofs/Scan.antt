@@ -6,7 +6,7 @@ use Prim.Native.Nat.{ℕ, suc, _+_, _-_, _<_}
 use native.Mathlib.Omega.{arith}
 use lib.Dec.{eqb}
 use lib.ListN.{getD}
-use Rattle.records.specs.Record.{nonzeroAt}
+use Rattle.fields.specs.Entry.{nonzeroAt}
 
 pub nonzero-step :
     (r : List ℕ) (at n later i : ℕ) → i < n →

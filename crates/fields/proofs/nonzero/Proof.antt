@@ -1,14 +1,14 @@
--- `records::nonzero` meets its contract: the bytes passed are 0. Assumes nothing.
-use Rattle.records.proofs.Scan.{nonzero-step}
+-- `fields::nonzero` meets its contract: the bytes passed are 0. Assumes nothing.
+use Rattle.fields.proofs.Scan.{nonzero-step}
 use mathlib.Core.Path.{_≡_, sym, ap, _∙_}
 use Prim.Native.Nat.{ℕ, _+_, _-_, _≤_}
 use native.Mathlib.Nat.{sub-zero, add-zero}
 use native.Mathlib.Omega.{arith}
 use borrow.Author.Needs.{needs}
 use borrow.Author.Tests.{eq-eqb, ne-eqb}
-use Rattle.records.specs.Record.{nonzeroAt}
-use Rattle.records.proofs.nonzero.Statement.{statement}
-use Rattle.records.proofs.nonzero.Tie as tie
+use Rattle.fields.specs.Entry.{nonzeroAt}
+use Rattle.fields.proofs.nonzero.Statement.{statement}
+use Rattle.fields.proofs.nonzero.Tie as tie
 
 abbrev Inv-loop : tie.InvT-loop
 Inv-loop posted later at wide i₀ i = (i ≤ wide) × (nonzeroAt posted at wide later ≡ nonzeroAt posted (at + i) (wide - i) later)

@@ -1,7 +1,7 @@
--- `records::between` meets its contract: the first test decides, or the second. Assumes nothing.
+-- `fields::between` meets its contract: the first test decides, or the second. Assumes nothing.
 use borrow.Author.Tests.{le-leb, lt-leb}
-use Rattle.records.proofs.between.Statement.{statement}
-use Rattle.records.proofs.between.Tie as tie
+use Rattle.fields.proofs.between.Statement.{statement}
+use Rattle.fields.proofs.between.Tie as tie
 
 returns : tie.Need-returns
 returns c = simp (le-leb _ _ (c .if1 .taken))
