@@ -25,7 +25,16 @@ line-number-requires-7 : tie.Need-line-number-requires-7
 line-number-requires-7 c κs = search needs
 
 returns : tie.Need-returns
-returns c = cc
+returns c =
+    rw (
+      c .line-number7 .ensures,
+      c .before .line-number6 .ensures,
+      c .before .before .line-number5 .ensures,
+      c .before .before .before .line-number4 .ensures,
+      c .before .before .before .before .line-number3 .ensures,
+      c .before .before .before .before .before .line-number2 .ensures,
+      c .before .before .before .before .before .before .line-number .ensures,
+    )
 
 pub line-at-spec : {M : Type 1} → statement M
 line-at-spec =
