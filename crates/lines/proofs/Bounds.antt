@@ -22,8 +22,8 @@ use Rattle.lagoon.specs.declared.Standing.{Standing}
 use Rattle.run.specs.declared.Totals.{Totals}
 use Rattle.keys.specs.Table.{lines, categories, months}
 use Rattle.book.specs.Valid.{Valid}
-use Rattle.slots.specs.Reads.{systemOf, lineOf, drainedOf}
-use Rattle.slots.specs.declared.Line.{Line}
+use Rattle.herd.specs.Herd.{systemOf, lineOf, drainedOf}
+use Rattle.herd.specs.declared.Line.{Line}
 use Rattle.slots.specs.declared.Seen.{Seen}
 use Rattle.slots.specs.declared.Seen.the-variants.{Nothing, Value}
 use Rattle.months.specs.Asks.{InPeriod, Holds}

@@ -9,8 +9,8 @@ use native.Mathlib.Omega.{arith}
 use borrow.Author.Tests.{eq-eqb, ne-eqb}
 use Rattle.run.specs.Run.{yearOf}
 use Rattle.run.specs.declared.Totals.{Totals}
-use Rattle.slots.specs.Reads.{systemOf, lineOf}
-use Rattle.slots.specs.declared.Line.{Line}
+use Rattle.herd.specs.Herd.{systemOf, lineOf}
+use Rattle.herd.specs.declared.Line.{Line}
 use Rattle.slots.specs.declared.Seen.{Seen}
 use Rattle.slots.specs.declared.Seen.the-variants.{Nothing, Value}
 use Rattle.lines.specs.Lines.{anaerobic, anaerobicOf, headsOf, otherOf, nothing, bySystem, lineIn, plus, sumsOver, all, monthAt}

@@ -14,7 +14,7 @@ use Rattle.lagoon.specs.Month.{emptyOf}
 use Rattle.run.specs.Run.{runFrom, runOf, yearOf}
 use Rattle.lagoon.specs.declared.Standing.{Standing}
 use Rattle.keys.specs.Table.{lines}
-use Rattle.slots.specs.Reads.{systemOf}
+use Rattle.herd.specs.Herd.{systemOf}
 use Rattle.slots.specs.declared.Seen.{Seen}
 use Rattle.slots.specs.declared.Seen.the-variants.{Value}
 use Rattle.months.specs.Series.{monthsBefore, monthsThrough}

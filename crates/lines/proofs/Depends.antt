@@ -23,8 +23,9 @@ use Rattle.book.proofs.Filling.{slot-byte}
 use Rattle.book.specs.Book.{recordAt, free}
 use Rattle.slots.proofs.Within.{number-slot}
 use Rattle.slots.specs.Field.{placeOf, bytesOf, seenAt, numberOf, seenOf, filledOf}
-use Rattle.slots.specs.Reads.{firstYearOf, firstMonthOf, systemOf, lineOf, headOf, drainedOf}
-use Rattle.slots.specs.declared.Line.{Line}
+use Rattle.slots.specs.Reads.{firstYearOf, firstMonthOf}
+use Rattle.herd.specs.Herd.{systemOf, lineOf, headOf, drainedOf}
+use Rattle.herd.specs.declared.Line.{Line}
 use Rattle.slots.specs.declared.Seen.{Seen}
 use Rattle.slots.specs.declared.Seen.the-variants.{Nothing, Value}
 use Rattle.slots.specs.declared.Warmth.the-variants.{Unknown, Tenths}

@@ -8,8 +8,9 @@ use Rattle.calendar.specs.Days.{monthsInYear}
 use Rattle.lagoon.specs.{Month.enteredOf, declared.Month.Month}
 use Rattle.run.specs.{Run.yearOf, declared.Totals.Totals}
 use Rattle.keys.specs.Table.{lines}
-use Rattle.slots.specs.Reads.{systemOf, lineOf, headOf, drainedOf}
-use Rattle.slots.specs.declared.{Line.Line, Seen.Seen, Seen.the-variants.Nothing, Seen.the-variants.Value}
+use Rattle.herd.specs.Herd.{systemOf, lineOf, headOf, drainedOf}
+use Rattle.slots.specs.declared.Seen.{Seen, the-variants.Nothing, the-variants.Value}
+use Rattle.herd.specs.declared.Line.{Line}
 use Rattle.months.specs.Series.{amountOf, monthsBefore, daysAt, factorAt}
 use Rattle.lines.specs.declared.Sums.{Sums}
 

@@ -8,15 +8,15 @@ ghost use Rattle.run.specs.Run.{runOf, yearOf};
 ghost use Rattle.lagoon.specs.Asks.{gramsMost};
 ghost use Rattle.keys.specs.Table.{lines, categories, months};
 ghost use Rattle.book.specs.Valid.{Valid};
-ghost use Rattle.slots.specs.Reads.{lineOf, drainedOf};
+ghost use Rattle.herd.specs.Herd.{lineOf, drainedOf};
 ghost use Rattle.months.specs.Series.{monthsBefore, daysAt, factorAt};
 ghost use Rattle.months.specs.Asks.{InPeriod, Holds};
 ghost use Rattle.lines.specs.Lines.{headAt, enteredAt, monthAt, nothing, baselineAlone, anaerobicOf, headsOf, otherOf, lineIn, plus, all, sumsOf};
 ghost use Rattle.lines.specs.Asks.{carriedBy, Carried, allGrams};
+use herd::Line;
 use lagoon::Standing;
 use months::MONTHS_IN_YEAR;
 use run::Totals;
-use slots::Line;
 use slots::Seen;
 use units::Co2e;
 use units::Solids;
@@ -106,10 +106,10 @@ fn line_in(
     requires { ⌜ Holds ℕ 0 (monthsBefore year) monthsInYear (factorAt (now book)) (now factors) ⌝ }
     ensures { λ r. ⌜ r ≡ lineIn (now (book .entry)) year line ⌝ }
 {
-    let Seen::Value(system) = slots::system(book, line) else {
+    let Seen::Value(system) = herd::system(book, line) else {
         return Sums::nothing();
     };
-    let numbers = slots::line_at(book, line);
+    let numbers = herd::line_at(book, line);
     if system == ANAEROBIC {
         let from = Standing::of(Solids::of_grams(carried));
         let totals = solids(book, year, line, numbers, from, days, factors);
@@ -183,7 +183,7 @@ fn head(book: &[u8], category: usize, month: usize) -> u64
     requires { ⌜ (category ≤ categories) × (month ≤ months) ⌝ }
     ensures { λ r. ⌜ r ≡ headAt (now (book .entry)) category month ⌝ }
 {
-    months::amount(slots::head(book, category, month))
+    months::amount(herd::head(book, category, month))
 }
 
 // When a line was drained, month by month of the year.
@@ -196,7 +196,7 @@ fn drains(book: &[u8], year: usize, line: usize) -> [bool; MONTHS_IN_YEAR]
     let before = months::months_before(year);
     let mut drains = [false; MONTHS_IN_YEAR];
     for passed in 0..MONTHS_IN_YEAR {
-        drains[passed] = slots::drained(book, line, before + passed + 1);
+        drains[passed] = herd::drained(book, line, before + passed + 1);
     }
     drains
 }

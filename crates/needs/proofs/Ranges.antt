@@ -6,9 +6,10 @@ use mathlib.Core.Path.{subst, _≡_}
 use lib.Dec.{lit≤}
 use Rattle.keys.specs.Table.{lines, categories}
 use Rattle.book.specs.Valid.{Valid}
-use Rattle.slots.proofs.Ranges.{In, line-in, numbers-in}
-use Rattle.slots.specs.Reads.{categoryOf, lineOf}
-use Rattle.slots.specs.declared.Line.{Line}
+use Rattle.slots.proofs.Ranges.{In}
+use Rattle.herd.proofs.Ranges.{line-in, numbers-in}
+use Rattle.herd.specs.Herd.{categoryOf, lineOf}
+use Rattle.herd.specs.declared.Line.{Line}
 use Rattle.slots.specs.declared.Seen.{Seen}
 use Rattle.slots.specs.declared.Seen.the-variants.{Value}
 use Rattle.months.specs.Series.{amountOf}

@@ -14,8 +14,8 @@ use Rattle.laws.proofs.Counting.{sum-none, sum-more, sum-most}
 use Rattle.laws.specs.Counting.{sum}
 use Rattle.keys.specs.Table.{lines, categories}
 use Rattle.book.specs.Valid.{Valid}
-use Rattle.slots.specs.Reads.{lineOf}
-use Rattle.slots.specs.declared.Line.{Line}
+use Rattle.herd.specs.Herd.{lineOf}
+use Rattle.herd.specs.declared.Line.{Line}
 use Rattle.needs.specs.Asks.{Shared}
 use Rattle.needs.specs.Shares.{shareIn, sharesOf}
 use Rattle.needs.proofs.Ranges.{share-ranged}

@@ -4,7 +4,7 @@ use mathlib.Core.{Bool.Bool, Bool.false, List.List, Path._≡_}
 use lib.{Dec.eqb, ListN.length, ListN.getD}
 use Rattle.laws.specs.Counting.{sum, some}
 use Rattle.keys.specs.Table.{categories}
-use Rattle.slots.specs.Reads.{categoryOf, lineOf}
+use Rattle.herd.specs.Herd.{categoryOf, lineOf}
 use Rattle.months.specs.Series.{amountOf}
 use Rattle.needs.specs.Shares.{shareIn}
 

@@ -4,7 +4,8 @@ use mathlib.Core.{Bool.Bool, Bool.true, Bool.false, Bool.cond, Bool.not, Bool._&
 use lib.Dec.{ltb, leb}
 use Rattle.laws.specs.Counting.{first, some}
 use Rattle.keys.specs.Table.{lines}
-use Rattle.slots.specs.Reads.{firstYearOf, categoryOf, headOf, temperatureOf, projectMethaneOf}
+use Rattle.slots.specs.Reads.{firstYearOf, temperatureOf, projectMethaneOf}
+use Rattle.herd.specs.Herd.{categoryOf, headOf}
 use Rattle.slots.specs.declared.Seen.{Seen, the-variants.Nothing, the-variants.Value}
 use Rattle.slots.specs.declared.Warmth.{Warmth, the-variants.Unknown, the-variants.Tenths}
 use Rattle.months.specs.Series.{filled, monthsBefore, monthsThrough}

@@ -4,7 +4,7 @@ use mathlib.Core.{Bool.cond, List.List}
 use lib.Dec.{eqb, ltb}
 use Rattle.laws.specs.Counting.{sum, first}
 use Rattle.keys.specs.Table.{lines, categories}
-use Rattle.slots.specs.{Reads.lineOf, declared.Line.Line}
+use Rattle.herd.specs.{Herd.lineOf, declared.Line.Line}
 
 -- shares count ten-thousandths
 abbrev pub wholeShare : ℕ

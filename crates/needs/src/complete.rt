@@ -57,7 +57,7 @@ fn any_line(book: &[u8]) -> bool
     ensures { λ r. ⌜ r ≡ anyLine (now (book .entry)) ⌝ }
 {
     for line in 1..=keys::LINES {
-        if months::is_filled(slots::category(book, line)) {
+        if months::is_filled(herd::category(book, line)) {
             return true;
         }
     }
@@ -71,7 +71,7 @@ fn lined_categories(book: &[u8]) -> [bool; CATEGORY_FLAGS]
 {
     let mut lined = [false; CATEGORY_FLAGS];
     for line in 1..=keys::LINES {
-        let category = months::amount(slots::category(book, line)) as usize;
+        let category = months::amount(herd::category(book, line)) as usize;
         lined[category] = true;
     }
     lined
@@ -144,5 +144,5 @@ fn is_uncounted(book: &[u8], category: usize, month: usize, lined: bool) -> bool
     if !lined {
         return false;
     }
-    !months::is_filled(slots::head(book, category, month))
+    !months::is_filled(herd::head(book, category, month))
 }

@@ -32,7 +32,7 @@ fn shares(book: &[u8]) -> [u64; CATEGORY_SUMS]
 {
     let mut shares = [0u64; CATEGORY_SUMS];
     for line in 1..=keys::LINES {
-        let numbers = slots::line_at(book, line);
+        let numbers = herd::line_at(book, line);
         let category = numbers.category as usize;
         shares[category] = shares[category] + numbers.share;
     }

@@ -17,7 +17,8 @@ use Rattle.book.specs.declared.Posted.the-variants.{Taken}
 use Rattle.book.proofs.Free.{free-same}
 use Rattle.book.proofs.Letters.{held-filled}
 use Rattle.slots.specs.Field.{placeOf, bytesOf, seenAt, numberOf, seenOf, filledOf}
-use Rattle.slots.specs.Reads.{firstYearOf, headOf, temperatureOf, drainedOf, projectMethaneOf, destroyedOf}
+use Rattle.slots.specs.Reads.{firstYearOf, temperatureOf, projectMethaneOf, destroyedOf}
+use Rattle.herd.specs.Herd.{headOf, drainedOf}
 use Rattle.slots.specs.declared.Seen.the-variants.{Nothing, Value}
 use Rattle.slots.specs.declared.Warmth.the-variants.{Unknown, Tenths}
 use Rattle.slots.proofs.Within.{number-slot, inside-record}

@@ -17,8 +17,9 @@ use Rattle.keys.specs.Number.{numberAt, signedOf}
 use Rattle.keys.specs.Slot.{slotOf}
 use Rattle.book.specs.Book.{recordAt}
 use Rattle.slots.specs.Field.{numberOf}
-use Rattle.slots.specs.Reads.{firstYearOf, firstMonthOf, systemOf, categoryOf, lineOf, headOf, temperatureOf, drainedOf, projectMethaneOf, baselineCo2Of, projectCo2Of, destroyedOf}
-use Rattle.slots.specs.declared.Line.{Line}
+use Rattle.slots.specs.Reads.{firstYearOf, firstMonthOf, temperatureOf, projectMethaneOf, baselineCo2Of, projectCo2Of, destroyedOf}
+use Rattle.herd.specs.Herd.{systemOf, categoryOf, lineOf, headOf, drainedOf}
+use Rattle.herd.specs.declared.Line.{Line}
 use Rattle.slots.specs.declared.Seen.{Seen}
 use Rattle.slots.specs.declared.Seen.the-variants.{Nothing, Value}
 use Rattle.slots.specs.declared.Warmth.the-variants.{Tenths, Unknown}

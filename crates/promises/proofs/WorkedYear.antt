@@ -22,8 +22,9 @@ use Rattle.run.specs.declared.Totals.{Totals}
 use Rattle.keys.specs.Table.{lines, ln}
 use Rattle.keys.specs.Slot.{slotOf}
 use Rattle.book.specs.Book.{recordAt}
-use Rattle.slots.specs.Reads.{firstMonthOf, lineOf, drainedOf, projectMethaneOf, baselineCo2Of, projectCo2Of}
-use Rattle.slots.specs.declared.Line.{Line}
+use Rattle.slots.specs.Reads.{firstMonthOf, projectMethaneOf, baselineCo2Of, projectCo2Of}
+use Rattle.herd.specs.Herd.{lineOf, drainedOf}
+use Rattle.herd.specs.declared.Line.{Line}
 use Rattle.slots.specs.declared.Seen.{Seen}
 use Rattle.slots.specs.declared.Warmth.{Warmth}
 use Rattle.months.specs.Series.{firstYear, amountOf, monthsBefore, daysAt, factorBy, factorAt}

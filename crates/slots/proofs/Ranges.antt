@@ -8,7 +8,7 @@ use lib.Dec.{T, eqb, lit≤}
 use lib.IntN.{ℤ, pos, negℤ}
 use lib.ListN.{length, getD}
 use lib.Signed.{leZ}
-use Rattle.keys.specs.Table.{from, unless, signed, Entry, zeros, field, lines, categories, months, devices, table, highestOf, entriesOf, yr, ln, hd, tp, pe, mt}
+use Rattle.keys.specs.Table.{from, unless, signed, Entry, zeros, field, months, devices, table, highestOf, entriesOf, yr, tp, pe, mt}
 use Rattle.keys.specs.Number.{signedOf}
 use Rattle.keys.specs.Slot.{slotOf}
 use Rattle.keys.proofs.Slots.{Low}
@@ -17,8 +17,7 @@ use Rattle.records.proofs.Keys.{within}
 use Rattle.book.specs.Book.{recordAt}
 use Rattle.book.specs.Valid.{Valid}
 use Rattle.slots.specs.Field.{seenAt, numberOf, seenOf, filledOf}
-use Rattle.slots.specs.Reads.{lineOf, temperatureOf}
-use Rattle.slots.specs.declared.Line.{Line}
+use Rattle.slots.specs.Reads.{temperatureOf}
 use Rattle.slots.specs.declared.Seen.{Seen}
 use Rattle.slots.specs.declared.Seen.the-variants.{Nothing, Value}
 use Rattle.slots.specs.declared.Warmth.{Warmth}
@@ -114,18 +113,6 @@ module _ (book : List ℕ) (v : Valid book) where
   pub year-most : (n : ℕ) → n < length (entriesOf yr) → T (unsigned (entryAt yr n)) → numberOf book yr [] n ≤ high yr n
   year-most n = most book v yr (lit≤ tt) [] tt n
 
-  pub line-in : (line : ℕ) → line ≤ lines → (n : ℕ) → n < length (entriesOf ln) → T (unsigned (entryAt ln n)) → In (low ln n) (high ln n) (seenOf book ln (line ∷ []) n)
-  line-in line h n = seen-in book v ln (lit≤ tt) (line ∷ []) (omega arith, tt) n
-
-  pub line-most : (line : ℕ) → line ≤ lines → (n : ℕ) → n < length (entriesOf ln) → T (unsigned (entryAt ln n)) → numberOf book ln (line ∷ []) n ≤ high ln n
-  line-most line h n = most book v ln (lit≤ tt) (line ∷ []) (omega arith, tt) n
-
-  pub head-in : (category month : ℕ) → category ≤ categories → month ≤ months → (n : ℕ) → n < length (entriesOf hd) → T (unsigned (entryAt hd n)) → In (low hd n) (high hd n) (seenOf book hd (category ∷ month ∷ []) n)
-  head-in category month h k n = seen-in book v hd (lit≤ tt) (category ∷ month ∷ []) (omega arith, (omega arith, tt)) n
-
-  pub head-most : (category month : ℕ) → category ≤ categories → month ≤ months → (n : ℕ) → n < length (entriesOf hd) → T (unsigned (entryAt hd n)) → numberOf book hd (category ∷ month ∷ []) n ≤ high hd n
-  head-most category month h k n = most book v hd (lit≤ tt) (category ∷ month ∷ []) (omega arith, (omega arith, tt)) n
-
   pub project-in : (month : ℕ) → month ≤ months → (n : ℕ) → n < length (entriesOf pe) → T (unsigned (entryAt pe n)) → In (low pe n) (high pe n) (seenOf book pe (month ∷ []) n)
   project-in month h n = seen-in book v pe (lit≤ tt) (month ∷ []) (omega arith, tt) n
 
@@ -137,27 +124,6 @@ module _ (book : List ℕ) (v : Valid book) where
 
   pub meter-most : (month device : ℕ) → month ≤ months → device ≤ devices → (n : ℕ) → n < length (entriesOf mt) → T (unsigned (entryAt mt n)) → numberOf book mt (month ∷ device ∷ []) n ≤ high mt n
   meter-most month device h k n = most book v mt (lit≤ tt) (month ∷ device ∷ []) (omega arith, (omega arith, tt)) n
-
-  pub record LineIn (x : Line) : Type 0 where
-    pub system : x .system ≤ high ln 1
-    pub category : x .category ≤ high ln 2
-    pub solids : x .solids ≤ high ln 4
-    pub mass : x .mass ≤ high ln 5
-    pub share : x .share ≤ high ln 6
-    pub b0 : x .b0 ≤ high ln 7
-    pub conversion : x .conversion ≤ high ln 9
-
-  pub numbers-in : (line : ℕ) → line ≤ lines → LineIn (lineOf book line)
-  numbers-in line h =
-      record {
-        system = line-most line h 1 (lit≤ tt) tt;
-        category = line-most line h 2 (lit≤ tt) tt;
-        solids = line-most line h 4 (lit≤ tt) tt;
-        mass = line-most line h 5 (lit≤ tt) tt;
-        share = line-most line h 6 (lit≤ tt) tt;
-        b0 = line-most line h 7 (lit≤ tt) tt;
-        conversion = line-most line h 9 (lit≤ tt) tt;
-      }
 
   -- a temperature, in tenths: from minus 500 to 600
   pub temperature-in : (month : ℕ) → month ≤ months → Mild 500 600 (temperatureOf book month)

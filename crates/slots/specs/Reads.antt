@@ -1,11 +1,11 @@
--- What the year reads of a book, mark by mark (01, "The records"). Lines, categories, months and devices count from 1.
+-- What the year reads of a book, mark by mark (01, "The records"): YR, TP, PE and MT. Months and devices count from 1.
 -- The last number of each read says which entry of its row in 01's table it is, counted from 0, the bytes of the key and the zero bytes too.
 -- Assumes nothing.
 use Prim.Native.Nat.{ℕ}
-use mathlib.Core.{Bool.Bool, Bool.cond, List.List, List.[], List._∷_}
-use Rattle.keys.specs.{Table.yr, Table.ln, Table.hd, Table.tp, Table.dr, Table.pe, Table.mt, Number.signedOf}
+use mathlib.Core.{Bool.cond, List.List, List.[], List._∷_}
+use Rattle.keys.specs.{Table.yr, Table.tp, Table.pe, Table.mt, Number.signedOf}
 use Rattle.slots.specs.Field.{numberOf, seenOf, filledOf}
-use Rattle.slots.specs.declared.{Line.Line, Seen.Seen, Warmth.Warmth, Warmth.the-variants.Unknown, Warmth.the-variants.Tenths}
+use Rattle.slots.specs.declared.{Seen.Seen, Warmth.Warmth, Warmth.the-variants.Unknown, Warmth.the-variants.Tenths}
 
 -- YR
 abbrev pub firstYearOf : List ℕ → Seen
@@ -14,37 +14,9 @@ firstYearOf book = seenOf book yr [] 0
 abbrev pub firstMonthOf : List ℕ → Seen
 firstMonthOf book = seenOf book yr [] 1
 
--- LN
-abbrev pub systemOf : List ℕ → ℕ → Seen
-systemOf book line = seenOf book ln (line ∷ []) 1
-
-abbrev pub categoryOf : List ℕ → ℕ → Seen
-categoryOf book line = seenOf book ln (line ∷ []) 2
-
--- all of a line's numbers at once, 0 where no LN stands
-abbrev pub lineOf : List ℕ → ℕ → Line
-lineOf book line =
-    record {
-      system = numberOf book ln (line ∷ []) 1;
-      category = numberOf book ln (line ∷ []) 2;
-      solids = numberOf book ln (line ∷ []) 4;
-      mass = numberOf book ln (line ∷ []) 5;
-      share = numberOf book ln (line ∷ []) 6;
-      b0 = numberOf book ln (line ∷ []) 7;
-      conversion = numberOf book ln (line ∷ []) 9;
-    }
-
--- HD
-abbrev pub headOf : List ℕ → ℕ → ℕ → Seen
-headOf book category month = seenOf book hd (category ∷ month ∷ []) 2
-
 -- TP
 abbrev pub temperatureOf : List ℕ → ℕ → Warmth
 temperatureOf book month = cond (filledOf book tp (month ∷ [])) (Tenths (signedOf (numberOf book tp (month ∷ []) 2))) Unknown
-
--- DR
-abbrev pub drainedOf : List ℕ → ℕ → ℕ → Bool
-drainedOf book line month = filledOf book dr (line ∷ month ∷ [])
 
 -- PE
 abbrev pub projectMethaneOf : List ℕ → ℕ → Seen

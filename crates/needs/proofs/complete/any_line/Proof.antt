@@ -7,7 +7,7 @@ use borrow.Author.Needs.{needs}
 use Rattle.laws.proofs.Counting.{begins, none-found, one-found, passed}
 use Rattle.laws.specs.Counting.{first, firstFrom}
 use Rattle.keys.specs.Table.{lines}
-use Rattle.slots.specs.Reads.{categoryOf}
+use Rattle.herd.specs.Herd.{categoryOf}
 use Rattle.months.specs.Series.{filled}
 use Rattle.needs.specs.Complete.{anyLine}
 use Rattle.needs.proofs.complete.any_line.Statement.{statement}

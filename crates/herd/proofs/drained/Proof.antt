@@ -1,4 +1,4 @@
--- `slots::drained` meets its contract: the slot of its key lies inside the book. Assumes nothing.
+-- `herd::drained` meets its contract: the slot of its key lies inside the book. Assumes nothing.
 use mathlib.Core.Path.{_∙_, ap, subst⁻¹}
 use mathlib.Core.Bool.{not}
 use mathlib.Core.List.{[], _∷_}
@@ -9,9 +9,9 @@ use lib.Dec.{lit≤}
 use Rattle.keys.specs.Table.{dr}
 use Rattle.keys.specs.Slot.{slots}
 use Rattle.book.specs.Book.{free}
 use Rattle.slots.proofs.Inside.{inside}
-use Rattle.slots.proofs.drained.Statement.{statement}
-use Rattle.slots.proofs.drained.Tie as tie
+use Rattle.herd.proofs.drained.Statement.{statement}
+use Rattle.herd.proofs.drained.Tie as tie
 
 drain-slot-requires : tie.Need-drain-slot-requires
 drain-slot-requires c κs = search needs

@@ -1,7 +1,7 @@
--- `slots::line_at` meets its contract: each number is that of its field. Assumes nothing.
+-- `herd::line_at` meets its contract: each number is that of its field. Assumes nothing.
 use borrow.Author.Needs.{needs}
-use Rattle.slots.proofs.line_at.Statement.{statement}
-use Rattle.slots.proofs.line_at.Tie as tie
+use Rattle.herd.proofs.line_at.Statement.{statement}
+use Rattle.herd.proofs.line_at.Tie as tie
 
 line-number-requires : tie.Need-line-number-requires
 line-number-requires c κs = search needs
