@@ -1,29 +1,32 @@
 -- The arrays are as long as the contracts ask (Sizes), and what is written lies within the page. No contract can say what is read or written: this proof is safety and ending. Assumes nothing.
-use mathlib.Core.Path.{sym}
+use mathlib.Core.Path.{refl, sym, ap, _∙_}
 use borrow.Author.Needs.{needs}
+use lib.Dec.{lit≤}
+use lib.ListN.{length}
 use lib.Seq.{length-take-le}
-use Rattle.years.proofs.Sizes.{book-size, block-size}
+use Rattle.book.proofs.Kept.{empty-valid}
+use Rattle.years.proofs.Sizes.{book-bytes}
 use Rattle.page.proofs.Laying.{within}
 use Rattle.years.proofs.main.Statement.{statement}
 use Rattle.years.proofs.main.Tie as tie
 
 slice-aggregate-empty : tie.Need-slice-aggregate-empty
-slice-aggregate-empty c = search needs
+slice-aggregate-empty c = refl
 
 empty-requires : tie.Need-empty-requires
-empty-requires c κs = book-size
+empty-requires c κs = book-bytes
 
 slice-aggregate-post-input : tie.Need-slice-aggregate-post-input
-slice-aggregate-post-input c = search needs
+slice-aggregate-post-input c = book-bytes ∙ sym (ap length (c .before .before .empty .ensures) ∙ empty-valid .size)
 
 slice-aggregate-post-input-2 : tie.Need-slice-aggregate-post-input-2
-slice-aggregate-post-input-2 c = search needs
+slice-aggregate-post-input-2 c = refl
 
 post-input-requires : tie.Need-post-input-requires
-post-input-requires c κs = (c .before .before .before .empty .ensures, block-size)
+post-input-requires c κs = (c .before .before .before .empty .ensures, lit≤ tt)
 
 enum-told : tie.Need-enum-told
-enum-told c = search needs
+enum-told c = c .match .keys1
 
 slice-aggregate-fail : tie.Need-slice-aggregate-fail
 slice-aggregate-fail c = search needs
@@ -35,7 +38,7 @@ returns : tie.Need-returns
 returns c = search needs
 
 slice-aggregate-lay-output : tie.Need-slice-aggregate-lay-output
-slice-aggregate-lay-output c = search needs
+slice-aggregate-lay-output c = book-bytes ∙ sym (c .before .before .before .before .post-input .ensures .1 .size)
 
 slice-aggregate-lay-output-2 : tie.Need-slice-aggregate-lay-output-2
 slice-aggregate-lay-output-2 c = search needs
