@@ -26,6 +26,13 @@ more-low n d s a w h = simp (add-mul, mul-assoc) at (mul-le-mul-right w h)
 more-up : (n d s a : ℕ) {w : ℕ} → 0 < w → million * a < n * d + million * s → million * (a * w) < n * (d * w) + million * (s * w)
 more-up n d s a z h = simp (add-mul, mul-assoc) at (mul-lt-mul-of-pos-right h z)
 
+-- one more term, which is added
+pub next-up :
+    (p q : ℕ) → 0 < q → (n t : ℕ) → even t ≡ true → million * (added p q t + p ^ t) < n * denominator q t + million * subtracted p q t →
+    Below p q n (suc t)
+unfolding denominator added subtracted
+next-up p q whole n t e h = rw (e, add-zero) (more-up n _ _ _ (mul-pos whole (zero-lt-suc t)) h)
+
 module _ (p q : ℕ) (small : p ≤ 3 * q) (whole : 0 < q) where
   step-pos : (t : ℕ) → 0 < q * suc t
   step-pos t = mul-pos whole (zero-lt-suc t)
