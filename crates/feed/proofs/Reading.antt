@@ -6,12 +6,10 @@ use native.Mathlib.Omega.{arith}
 use lib.ListN.{length, take, drop, length-append}
 use lib.Seq.{length-take-le, take-add}
 use Rattle.keys.specs.Number.{recordBytes}
-use Rattle.book.specs.Book.{emptyBook}
 use Rattle.book.specs.Run.{recordsFrom, recordsOf, answerAll, bookAll}
 use Rattle.book.specs.Valid.{Valid}
 use Rattle.book.specs.declared.Posted.{Posted}
 use Rattle.book.specs.declared.Posted.the-variants.{Taken, Refused}
-use Rattle.book.proofs.Kept.{empty-valid}
 use Rattle.feed.specs.Blocks.{wholeBytes, wholeRecords, carried, blockBy, fedBy}
 use Rattle.feed.specs.Input.{bookOf, endingBy, endingOf, Comes, read}
 use Rattle.feed.specs.declared.Fed.{Fed}
@@ -22,21 +20,22 @@ use Rattle.feed.proofs.Carrying.{held}
 use Rattle.feed.proofs.Posting.{kept-all, after, stays, many, parts}
 use Rattle.feed.proofs.Slots.{freeSlots, fills-all}
 
-pub record Reading (book block : List ℕ) (cut : ℕ) : Type 0 where
+pub record Reading (start book block : List ℕ) (cut : ℕ) : Type 0 where
+  pub from : Valid start
   pub input : List ℕ
   pub posted : List ℕ
   pub is : input ≡ posted ++ take cut block
   pub whole : length posted % recordBytes ≡ 0
-  pub taken : answerAll emptyBook (recordsOf posted) ≡ Taken
-  pub made : book ≡ bookAll emptyBook (recordsOf posted)
+  pub taken : answerAll start (recordsOf posted) ≡ Taken
+  pub made : book ≡ bookAll start (recordsOf posted)
   pub short : cut < recordBytes
 
-pub begin : (block : List ℕ) → Reading emptyBook block 0
+pub begin : (start block : List ℕ) → Valid start → Reading start start block 0
 unfolding recordsOf recordsFrom answerAll bookAll
-begin block = record { input = []; posted = []; is = refl; whole = refl; taken = refl; made = refl; short = omega arith }
+begin start block v = record { from = v; input = []; posted = []; is = refl; whole = refl; taken = refl; made = refl; short = omega arith }
 
-pub valid : {book block : List ℕ} {cut : ℕ} → Reading book block cut → Valid book
-valid w = rw (w .made) (kept-all emptyBook (recordsOf (w .posted)) empty-valid)
+pub valid : {start book block : List ℕ} {cut : ℕ} → Reading start book block cut → Valid book
+valid {start} w = rw (w .made) (kept-all start (recordsOf (w .posted)) (w .from))
 
 -- how many bytes can still come
 unfoldable pub left : List ℕ → ℕ → ℕ
@@ -52,27 +51,27 @@ stops Taken filled number place e = let z : _≡_ {A = ℕ} 0 1 = cc in let f : 
 stops (Refused n q) filled number place e = cc
 
 -- more bytes posted after those that are
-module _ {book block : List ℕ} {cut : ℕ} (w : Reading book block cut) (more : List ℕ) where
-  answers : answerAll emptyBook (recordsOf (w .posted ++ more)) ≡ answerAll book (recordsOf more)
+module _ {start book block : List ℕ} {cut : ℕ} (w : Reading start book block cut) (more : List ℕ) where
+  answers : answerAll start (recordsOf (w .posted ++ more)) ≡ answerAll book (recordsOf more)
   answers =
-      ap (answerAll emptyBook) (parts (w .posted) more (w .whole)) ∙ after emptyBook (recordsOf (w .posted)) (recordsOf more) (w .taken) .0
+      ap (answerAll start) (parts (w .posted) more (w .whole)) ∙ after start (recordsOf (w .posted)) (recordsOf more) (w .taken) .0
       ∙ ap (λ (b : List ℕ). answerAll b (recordsOf more)) (sym (w .made))
 
-  makes : bookAll emptyBook (recordsOf (w .posted ++ more)) ≡ bookAll book (recordsOf more)
+  makes : bookAll start (recordsOf (w .posted ++ more)) ≡ bookAll book (recordsOf more)
   makes =
-      ap (bookAll emptyBook) (parts (w .posted) more (w .whole)) ∙ after emptyBook (recordsOf (w .posted)) (recordsOf more) (w .taken) .1
+      ap (bookAll start) (parts (w .posted) more (w .whole)) ∙ after start (recordsOf (w .posted)) (recordsOf more) (w .taken) .1
       ∙ ap (λ (b : List ℕ). bookAll b (recordsOf more)) (sym (w .made))
 
-module _ {book block : List ℕ} {cut : ℕ} (w : Reading book block cut) (now : List ℕ) (kept : take cut now ≡ take cut block) where
+module _ {start book block : List ℕ} {cut : ℕ} (w : Reading start book block cut) (now : List ℕ) (kept : take cut now ≡ take cut block) where
   -- at the input's end
   pub ended :
       {ending : Ending} {last : List ℕ} → ending ≡ endingBy (answerAll book (recordsOf (take cut now))) → last ≡ bookAll book (recordsOf (take cut now)) →
-      Comes ending last
+      Comes start ending last
   unfolding endingOf bookOf
   ended {ending} {last} e b =
       let i : w .input ≡ w .posted ++ take cut now = w .is ∙ ap (λ (l : List ℕ). w .posted ++ l) (sym kept) in
-      read (w .input) (e ∙ sym (ap (λ (l : List ℕ). endingBy (answerAll emptyBook (recordsOf l))) i ∙ ap endingBy (answers w (take cut now))))
-      (b ∙ sym (ap (λ (l : List ℕ). bookAll emptyBook (recordsOf l)) i ∙ makes w (take cut now)))
+      read (w .input) (e ∙ sym (ap (λ (l : List ℕ). endingBy (answerAll start (recordsOf l))) i ∙ ap endingBy (answers w (take cut now))))
+      (b ∙ sym (ap (λ (l : List ℕ). bookAll start (recordsOf l)) i ∙ makes w (take cut now)))
 
   module _ (count : ℕ) (room : cut + count ≤ length now) where
     -- the input with what the read gave
@@ -103,10 +102,11 @@ module _ {book block : List ℕ} {cut : ℕ} (w : Reading book block cut) (now :
     module _ {book' : List ℕ} (b : book' ≡ bookAll book (wholeRecords now (cut + count))) where
       pub next :
           {block' : List ℕ} → answerAll book (wholeRecords now (cut + count)) ≡ Taken → block' ≡ carried now (wholeBytes (cut + count)) (cut + count) →
-          Reading book' block' (cut + count - wholeBytes (cut + count))
+          Reading start book' block' (cut + count - wholeBytes (cut + count))
       unfolding wholeRecords records rest
       next {block'} t c =
           record {
+            from = w .from;
             input = longer;
             posted = w .posted ++ records;
             is = longer-is ∙ ap (λ (l : List ℕ). w .posted ++ records ++ l) (sym (held now (wholeBytes (cut + count)) (cut + count) room) ∙ ap (take (cut + count - wholeBytes (cut + count))) (sym c));
@@ -116,12 +116,12 @@ module _ {book block : List ℕ} {cut : ℕ} (w : Reading book block cut) (now :
             short = omega arith;
           }
 
-      pub refused : {number place : ℕ} → answerAll book (wholeRecords now (cut + count)) ≡ Refused number place → Comes (EndingRefused number place) book'
+      pub refused : {number place : ℕ} → answerAll book (wholeRecords now (cut + count)) ≡ Refused number place → Comes start (EndingRefused number place) book'
       unfolding wholeRecords records endingOf bookOf
       refused {number} {place} t =
           let both = ap recordsOf longer-is ∙ parts (w .posted ++ records) rest records-whole in
-          let s = stays emptyBook (recordsOf (w .posted ++ records)) (recordsOf rest) number place (answers w records ∙ t) in
-          read longer (sym (ap endingBy (ap (answerAll emptyBook) both ∙ s .0))) (b ∙ sym (ap (bookAll emptyBook) both ∙ s .1 ∙ makes w records))
+          let s = stays start (recordsOf (w .posted ++ records)) (recordsOf rest) number place (answers w records ∙ t) in
+          read longer (sym (ap endingBy (ap (answerAll start) both ∙ s .0))) (b ∙ sym (ap (bookAll start) both ∙ s .1 ∙ makes w records))
 
       pub fewer : 0 < count → answerAll book (wholeRecords now (cut + count)) ≡ Taken → left book' (cut + count - wholeBytes (cut + count)) < left book cut
       unfolding wholeRecords left recordsOf
@@ -135,11 +135,11 @@ module _ {book block : List ℕ} {cut : ℕ} (w : Reading book block cut) (now :
     module _ {book' block' : List ℕ} {fed : Fed} (f : fed ≡ fedBy (answerAll book (wholeRecords now (cut + count))) (cut + count))
         (b : book' ≡ bookAll book (wholeRecords now (cut + count)))
         (c : block' ≡ blockBy (answerAll book (wholeRecords now (cut + count))) now (cut + count)) where
-      pub onwards : {n : ℕ} → 0 < count → fed ≡ Held n → Reading book' block' n × (left book' n < left book cut)
+      pub onwards : {n : ℕ} → 0 < count → fed ≡ Held n → Reading start book' block' n × (left book' n < left book cut)
       onwards {n} some e =
           let h = holds (answerAll book (wholeRecords now (cut + count))) (cut + count) n (sym f ∙ e) in
           rw (h .1)
           (next b (h .0) (c ∙ ap (λ (p : Posted). blockBy p now (cut + count)) (h .0)), fewer b some (h .0))
 
-      pub stopped : {number place : ℕ} → fed ≡ FedRefused number place → Comes (EndingRefused number place) book'
+      pub stopped : {number place : ℕ} → fed ≡ FedRefused number place → Comes start (EndingRefused number place) book'
       stopped {number} {place} e = refused b (stops (answerAll book (wholeRecords now (cut + count))) (cut + count) number place (sym f ∙ e))

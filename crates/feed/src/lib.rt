@@ -3,7 +3,6 @@ ghost use mathlib.Core.Path.{_≡_};
 ghost use Prim.Native.Nat.{_-_, _≤_};
 ghost use lib.ListN.{length};
 ghost use Rattle.keys.specs.Number.{recordBytes};
-ghost use Rattle.book.specs.Book.{emptyBook};
 ghost use Rattle.book.specs.Run.{recordsOf, answerAll, bookAll};
 ghost use Rattle.book.specs.Valid.{Valid};
 ghost use Rattle.feed.specs.Blocks.{wholeRecords, carried, blockBy, fedBy};
@@ -25,12 +24,12 @@ enum Fed {
     Refused(u8, usize),
 }
 
-// Posts standard input to the empty book, block by block, until it ends or a record is refused. It needs no count of
+// Posts standard input to a book, block by block, until it ends or a record is refused. It needs no count of
 // its turns to end: a record taken fills a slot, and a book has only so many.
 pub fn post_input(book: &mut [u8], block: &mut [u8]) -> Ending
-    requires { ⌜ now book ≡ emptyBook ⌝ }
+    requires { ⌜ Valid (now book) ⌝ }
     requires { ⌜ recordBytes ≤ length (now block) ⌝ }
-    ensures { λ r. ⌜ Comes r (now (book .exit)) ⌝ }
+    ensures { λ r. ⌜ Comes (now (book .entry)) r (now (book .exit)) ⌝ }
     ensures { λ _. ⌜ Valid (now (book .exit)) ⌝ }
 {
     let mut held = 0;

@@ -21,13 +21,13 @@ use Rattle.feed.specs.Input.{bookOf, endingBy, endingOf}
 use Rattle.feed.proofs.Posting.{after, stays, parts}
 use Rattle.years.specs.Output.{endingLines, output}
 
-pub of-input : (input : List ℕ) {ending : Ending} {book : List ℕ} → ending ≡ endingOf input → book ≡ bookOf input → endingLines ending book ≡ output input
+pub of-input : (input : List ℕ) {ending : Ending} {book : List ℕ} → ending ≡ endingOf emptyBook input → book ≡ bookOf emptyBook input → endingLines ending book ≡ output input
 unfolding output
-of-input input {ending} {book} e b = ap (λ (x : Ending). endingLines x book) e ∙ ap (endingLines (endingOf input)) b
+of-input input {ending} {book} e b = ap (λ (x : Ending). endingLines x book) e ∙ ap (endingLines (endingOf emptyBook input)) b
 
 refused-by : (input : List ℕ) (number place : ℕ) → answerAll emptyBook (recordsOf input) ≡ Refused number place → output input ≡ refusalLine number place
 unfolding output endingOf endingLines
-refused-by input number place e = ap (λ (p : Posted). endingLines (endingBy p) (bookOf input)) e
+refused-by input number place e = ap (λ (p : Posted). endingLines (endingBy p) (bookOf emptyBook input)) e
 
 -- a refusal among whole records
 pub nothing-after :

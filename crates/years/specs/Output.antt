@@ -1,6 +1,7 @@
 -- What the year program prints for its whole input (01, "Figures to check"). Assumes nothing.
 use Prim.Native.Nat.{ℕ}
 use mathlib.Core.List.{List, []}
+use Rattle.book.specs.Book.{emptyBook}
 use Rattle.page.specs.Line.{refusalLine}
 use Rattle.text.specs.Lines.{printed}
 use Rattle.feed.specs.{Input.bookOf, Input.endingOf, declared.Ending.Ending, declared.Ending.the-variants.Ended, declared.Ending.the-variants.Refused, declared.Ending.the-variants.Failed}
@@ -12,4 +13,4 @@ endingLines (Refused number place) book = refusalLine number place
 endingLines Failed book = []
 
 unfoldable pub output : List ℕ → List ℕ
-output input = endingLines (endingOf input) (bookOf input)
+output input = endingLines (endingOf emptyBook input) (bookOf emptyBook input)

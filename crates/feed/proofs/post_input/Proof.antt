@@ -15,13 +15,13 @@ use Rattle.feed.proofs.post_input.Statement.{statement}
 use Rattle.feed.proofs.post_input.Tie as tie
 
 abbrev Inv-loop : tie.InvT-loop
-Inv-loop book₀ block₀ held₀ book block held = (Reading book block held) × (length book ≡ length book₀) × (length block ≡ length block₀)
+Inv-loop book₀ block₀ held₀ book block held = (Reading book₀ book block held) × (length book ≡ length book₀) × (length block ≡ length block₀)
 
 abbrev μ-loop : tie.MeasureT-loop
 μ-loop book₀ block₀ held₀ book block held = left book held
 
 loop-holds : tie.Need-loop-holds Inv-loop μ-loop
-loop-holds c = (rw (c .before .before .pre .0) (begin (c .before .before .args .block .now)), refl, refl)
+loop-holds c = (begin (c .before .before .args .book .now) (c .before .before .args .block .now) (c .before .before .pre .0), refl, refl)
 
 read-more-requires : tie.Need-read-more-requires Inv-loop μ-loop
 read-more-requires c κs = let w = c .before .loop .inv in omega (arith, w .0 .short, w .2, c .before .before .before .before .pre .1)
@@ -89,7 +89,7 @@ post-block-requires c κs = (valid (c .before .before .before .before .before .b
 
 turned :
     (c : tie.After-post-block Inv-loop μ-loop) {n : ℕ} → c .post-block .result ≡ Held n →
-    Reading (c .post-block .last .0) (c .post-block .last .1 .0) n × (left (c .post-block .last .0) n < left (c .before .before .before .before .before .before .before .before .before .before .before .loop .book) (c .before .before .before .before .before .before .before .before .before .before .before .loop .held))
+    Reading (c .before .before .before .before .before .before .before .before .before .before .before .before .before .before .args .book .now) (c .post-block .last .0) (c .post-block .last .1 .0) n × (left (c .post-block .last .0) n < left (c .before .before .before .before .before .before .before .before .before .before .before .loop .book) (c .before .before .before .before .before .before .before .before .before .before .before .loop .held))
 turned c e =
     let more = c .before .before .before .before .before .before .before .before .before .read-more in
     let block = c .post-block .ensures in

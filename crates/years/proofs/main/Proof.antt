@@ -23,7 +23,7 @@ slice-aggregate-post-input-2 : tie.Need-slice-aggregate-post-input-2
 slice-aggregate-post-input-2 c = refl
 
 post-input-requires : tie.Need-post-input-requires
-post-input-requires c κs = (c .before .before .before .empty .ensures, lit≤ tt)
+post-input-requires c κs = (rw (c .before .before .before .empty .ensures) empty-valid, lit≤ tt)
 
 enum-told : tie.Need-enum-told
 enum-told c = c .match .keys1
