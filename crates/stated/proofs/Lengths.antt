@@ -1,6 +1,6 @@
--- How long a year's lines are. Assumes nothing.
+-- How long a year's lines are, and that a place from which a text has room is in the page. Assumes nothing.
 use mathlib.Core.Path.{_≡_}
-use Prim.Native.Nat.{ℕ, _+_}
+use Prim.Native.Nat.{ℕ, _+_, _≤_}
 use native.Mathlib.Omega.{arith}
 use lib.ListN.{length, length-append}
 use Rattle.year.specs.declared.Figures.{Figures}
@@ -30,3 +30,6 @@ tonnes-length f = simp length-append (omega arith)
 pub lines-length : (year : ℕ) (f : Figures) → length (yearLines year f) ≡ length (yearLine year) + length (solidsLine f) + length (gramsLine f) + length (tonnesLine f)
 unfolding yearLines
 lines-length year f = simp length-append (omega arith)
+
+pub begins : (at size : ℕ) {bytes : ℕ} → at + size ≤ bytes → at ≤ bytes
+begins at size room = omega arith

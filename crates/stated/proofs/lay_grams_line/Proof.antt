@@ -1,9 +1,10 @@
 -- The line's four texts are laid one after the other. Assumes nothing.
 use native.Mathlib.Omega.{arith}
 use borrow.Author.Needs.{needs}
+use lib.ListN.{length}
 use Rattle.stated.specs.Lines.{gramsLine}
 use Rattle.page.proofs.Laying.{joined}
-use Rattle.stated.proofs.Lengths.{grams-length}
+use Rattle.stated.proofs.Lengths.{begins, grams-length}
 use Rattle.stated.proofs.lay_grams_line.Statement.{statement}
 use Rattle.stated.proofs.lay_grams_line.Tie as tie
 
@@ -37,10 +38,12 @@ same-length c = search needs
 returns : tie.Need-returns
 unfolding gramsLine
 returns c =
+    let s = c .before .before .before .before .before .before .before .before .before .before .before .before .before .before .before .before .before .before .before .before .before in
+    let start = begins (s .args .at) (length (gramsLine (s .args .figures))) (s .pre) in
     joined
-    (joined (joined (c .before .before .before .before .before .before .before .before .before .before .before .before .before .before .before .before .before .lay-co2e .ensures) (c .before .before .before .before .before .before .before .before .before .before .before .before .lay-co2e2 .ensures) (omega arith)) (c .before .before .before .before .before .before .before .lay-co2e3 .ensures) (omega arith))
+    (joined (joined (c .before .before .before .before .before .before .before .before .before .before .before .before .before .before .before .before .before .lay-co2e .ensures) (c .before .before .before .before .before .before .before .before .before .before .before .before .lay-co2e2 .ensures) start) (c .before .before .before .before .before .before .before .lay-co2e3 .ensures) start)
     (c .before .before .lay-word .ensures)
-    (omega arith)
+    start
 
 pub lay-grams-line-spec : {M : Type 1} → statement M
 lay-grams-line-spec =

@@ -1,9 +1,10 @@
 -- The line's five texts are laid one after the other. Assumes nothing.
 use native.Mathlib.Omega.{arith}
 use borrow.Author.Needs.{needs}
+use lib.ListN.{length}
 use Rattle.stated.specs.Lines.{solidsLine}
 use Rattle.page.proofs.Laying.{joined}
-use Rattle.stated.proofs.Lengths.{solids-length}
+use Rattle.stated.proofs.Lengths.{begins, solids-length}
 use Rattle.stated.proofs.lay_solids_line.Statement.{statement}
 use Rattle.stated.proofs.lay_solids_line.Tie as tie
 
@@ -43,13 +44,15 @@ same-length c = search needs
 returns : tie.Need-returns
 unfolding solidsLine
 returns c =
+    let s = c .before .before .before .before .before .before .before .before .before .before .before .before .before .before .before .before .before .before .before .before .before .before .before .before .before .before in
+    let start = begins (s .args .at) (length (solidsLine (s .args .figures))) (s .pre) in
     joined
     (joined
-    (joined (joined (c .before .before .before .before .before .before .before .before .before .before .before .before .before .before .before .before .before .before .before .before .before .before .lay-solids .ensures) (c .before .before .before .before .before .before .before .before .before .before .before .before .before .before .before .before .before .lay-solids2 .ensures) (omega arith)) (c .before .before .before .before .before .before .before .before .before .before .before .before .lay-solids3 .ensures) (omega arith))
+    (joined (joined (c .before .before .before .before .before .before .before .before .before .before .before .before .before .before .before .before .before .before .before .before .before .before .lay-solids .ensures) (c .before .before .before .before .before .before .before .before .before .before .before .before .before .before .before .before .before .lay-solids2 .ensures) start) (c .before .before .before .before .before .before .before .before .before .before .before .before .lay-solids3 .ensures) start)
     (c .before .before .before .before .before .before .before .lay-solids4 .ensures)
-    (omega arith))
+    start)
     (c .before .before .lay-word .ensures)
-    (omega arith)
+    start
 
 pub lay-solids-line-spec : {M : Type 1} → statement M
 lay-solids-line-spec =

@@ -9,7 +9,7 @@ use mir.Val.{toZ, ofZ}
 use Rattle.page.specs.Number.{signed}
 use Rattle.stated.specs.Lines.{tonnesLine}
 use Rattle.page.proofs.Laying.{joined}
-use Rattle.stated.proofs.Lengths.{tonnes-length}
+use Rattle.stated.proofs.Lengths.{begins, tonnes-length}
 use Rattle.stated.proofs.lay_tonnes_line.Statement.{statement}
 use Rattle.stated.proofs.lay_tonnes_line.Tie as tie
 
@@ -49,7 +49,8 @@ returns c =
     let s = c .before .before .before .before .before .before .before .before .before .before .before .before .before .before .before .before .before .before .before .before .before in
     let named = c .before .before .before .before .before .before .before .before .before .before .before .before .before .before .before .before .before .lay-word .ensures in
     let net = c .before .before .before .before .before .before .before .before .before .before .before .before .lay-signed .ensures in
-    joined (joined (joined named (rw (held s) at net) (omega arith)) (c .before .before .before .before .before .before .before .lay-figure .ensures) (omega arith)) (c .before .before .lay-word2 .ensures) (omega arith)
+    let start = begins (s .args .at) (length (tonnesLine (s .args .figures))) (s .pre) in
+    joined (joined (joined named (rw (held s) at net) start) (c .before .before .before .before .before .before .before .lay-figure .ensures) start) (c .before .before .lay-word2 .ensures) start
 
 pub lay-tonnes-line-spec : {M : Type 1} → statement M
 lay-tonnes-line-spec =

@@ -1,9 +1,10 @@
 -- The four lines are laid one after the other. Assumes nothing.
 use native.Mathlib.Omega.{arith}
 use borrow.Author.Needs.{needs}
+use lib.ListN.{length}
 use Rattle.stated.specs.Lines.{yearLines}
 use Rattle.page.proofs.Laying.{joined}
-use Rattle.stated.proofs.Lengths.{lines-length}
+use Rattle.stated.proofs.Lengths.{begins, lines-length}
 use Rattle.stated.proofs.lay_year.Statement.{statement}
 use Rattle.stated.proofs.lay_year.Tie as tie
 
@@ -25,10 +26,12 @@ same-length c = search needs
 returns : tie.Need-returns
 unfolding yearLines
 returns c =
+    let s = c .before .before .before .before .before .before .before .before .before .before .before .before .before .before .before .before .before in
+    let start = begins (s .args .at) (length (yearLines (s .args .year) (s .args .figures))) (s .pre) in
     joined
-    (joined (joined (c .before .before .before .before .before .before .before .before .before .before .before .before .before .before .lay-year-line .ensures) (c .before .before .before .before .before .before .before .before .before .before .lay-solids-line .ensures) (omega arith)) (c .before .before .before .before .before .before .lay-grams-line .ensures) (omega arith))
+    (joined (joined (c .before .before .before .before .before .before .before .before .before .before .before .before .before .before .lay-year-line .ensures) (c .before .before .before .before .before .before .before .before .before .before .lay-solids-line .ensures) start) (c .before .before .before .before .before .before .lay-grams-line .ensures) start)
     (c .before .before .lay-tonnes-line .ensures)
-    (omega arith)
+    start
 
 pub lay-year-spec : {M : Type 1} → statement M
 lay-year-spec =
