@@ -15,7 +15,7 @@ pub fn line(answer: MonthAnswer, page: &mut [u8]) -> usize
 {
     match answer {
         MonthAnswer::Destroyed(methane) => destroyed(methane.grams(), page),
-        MonthAnswer::Refused(number, place) => page::lay_refusal(page, 0, number, place as u64),
+        MonthAnswer::Refused(number, place) => refusal::lay_refusal(page, 0, number, place as u64),
     }
 }
 

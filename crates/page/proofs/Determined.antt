@@ -4,7 +4,6 @@ use mathlib.Core.Path.{_≡_}
 use mathlib.Core.List.{List}
 use Rattle.laws.proofs.Determined.{OneOutcome, one}
 use Rattle.page.specs.Page.{Lays}
-use Rattle.page.proofs.lay_refusal.Reads as LayRefusal
 use Rattle.page.proofs.lay_figure.Reads as LayFigure
 use Rattle.page.proofs.lay_word.Reads as LayWord
 use Rattle.page.proofs.lay_signed.Reads as LaySigned
@@ -15,9 +14,6 @@ pub lays-one :
     {before text after after' : List ℕ} {at end end' : ℕ} → Lays before at text end after → Lays before at text end' after' →
     (end ≡ end') × (after ≡ after')
 lays-one p q = (one (p .ends) (q .ends), one (p .page) (q .page))
-
-pub lay-refusal-one : OneOutcome LayRefusal.Learnt (λ κ s. s .0 .now)
-lay-refusal-one κ a x y s t = lays-one
 
 pub lay-figure-one : OneOutcome LayFigure.Learnt (λ κ s. s .0 .now)
 lay-figure-one κ a x y s t = lays-one

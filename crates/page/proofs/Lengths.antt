@@ -1,13 +1,11 @@
--- How long a figure's text and the line of a refusal are: no figure of a u64 has more than twenty digits. Assumes nothing.
-use mathlib.Core.Path.{_≡_}
-use Prim.Native.Nat.{ℕ, suc, _+_, _^_, _≤_, _<_}
+-- How long a figure's text is: no figure of a u64 has more than twenty digits. Assumes nothing.
+use Prim.Native.Nat.{ℕ, suc, _^_, _≤_, _<_}
 use native.Mathlib.Omega.{arith}
 use lib.IntN.{ℤ, pos, negsuc}
-use lib.ListN.{length, length-append}
+use lib.ListN.{length}
 use mir.Syntax.{w64}
 use mir.Val.{SFits}
 use Rattle.page.specs.Number.{decimal, signed}
-use Rattle.page.specs.Line.{refusalLine}
 use Rattle.page.proofs.Digits.{at-most}
 
 -- twenty digits hold a u64, and nineteen after a minus sign an i64
@@ -18,11 +16,3 @@ pub wide-signed : (z : ℤ) → SFits w64 z → length (signed z) ≤ 20
 unfolding signed
 wide-signed (pos n) f = let h = f .sfits in wide n (omega arith)
 wide-signed (negsuc n) f = let h = f .sfits in omega (arith, at-most 18 (suc n) (omega arith))
-
-pub refusal-length : (number place : ℕ) → length (refusalLine number place) ≡ 13 + length (decimal number) + length (decimal place)
-unfolding refusalLine
-refusal-length number place = simp length-append (omega arith)
-
--- three digits hold a refusal's number
-pub refusal-most : (number place : ℕ) → number < 2 ^ 8 → place < 2 ^ 64 → length (refusalLine number place) ≤ 36
-refusal-most number place a b = omega (arith, refusal-length number place, at-most 2 number (omega arith), wide place b)

@@ -7,19 +7,8 @@ ghost use lib.ListN.{length};
 ghost use lib.IntN.{natAbs};
 ghost use Rattle.page.specs.Number.{base, digit, decimal, signed};
 ghost use Rattle.page.specs.Page.{Lays};
-ghost use Rattle.page.specs.Line.{refusalLine};
 
 const BASE: u64 = 10;
-
-// The line of a refusal: of a record, of a year or of a meter's month.
-pub fn lay_refusal(page: &mut [u8], at: usize, number: u8, place: u64) -> usize
-    requires { ⌜ at + length (refusalLine number place) ≤ length (now page) ⌝ }
-    ensures { λ r. ⌜ Lays (now (page .entry)) at (refusalLine number place) r (now (page .exit)) ⌝ }
-{
-    let numbered = lay_figure(page, at, b"refused ", number as u64);
-    let placed = lay_figure(page, numbered, b" at ", place);
-    lay_word(page, placed, b"\n")
-}
 
 // A word and the figure after it.
 pub fn lay_figure(page: &mut [u8], at: usize, word: &[u8], figure: u64) -> usize

@@ -5,8 +5,9 @@ use lib.ListN.{length}
 use Rattle.year.specs.declared.Figures.{Figures}
 use mir.Syntax.{w64}
 use mir.Val.{SFits}
-use Rattle.page.specs.Line.{refusalLine}
-use Rattle.page.proofs.Lengths.{wide, wide-signed, refusal-most}
+use Rattle.refusal.specs.Line.{refusalLine}
+use Rattle.page.proofs.Lengths.{wide, wide-signed}
+use Rattle.refusal.proofs.Lengths.{refusal-most}
 use Rattle.stated.specs.Lines.{yearLines}
 use Rattle.stated.proofs.Lengths.{year-length, solids-length, grams-length, tonnes-length, lines-length}
 use Rattle.text.specs.Page.{yearBytes}

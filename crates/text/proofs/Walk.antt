@@ -10,7 +10,7 @@ use Rattle.year.specs.declared.Answer.{Answer}
 use Rattle.year.specs.declared.Answer.the-variants.{Stated, Refused}
 use Rattle.year.specs.Answer.{answerOf}
 use Rattle.page.specs.Page.{Lays}
-use Rattle.page.specs.Line.{refusalLine}
+use Rattle.refusal.specs.Line.{refusalLine}
 use Rattle.page.proofs.Laying.{joined, laid-length, laid-none}
 use Rattle.stated.specs.Lines.{yearLines}
 use Rattle.text.specs.Lines.{answerLines, yearsFrom, printed}

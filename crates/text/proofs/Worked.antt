@@ -7,7 +7,7 @@ use Rattle.units.specs.Grams.{solids, co2e}
 use Rattle.year.specs.declared.Figures.{Figures}
 use Rattle.year.specs.declared.Answer.the-variants.{Stated, Refused}
 use Rattle.page.specs.Number.{word, lastDigits, decimal, signed}
-use Rattle.page.specs.Line.{refusalLine}
+use Rattle.refusal.specs.Line.{refusalLine}
 use Rattle.stated.specs.Lines.{yearLine, solidsLine, gramsLine, tonnesLine, yearLines}
 use Rattle.text.specs.Lines.{answerLines}
 

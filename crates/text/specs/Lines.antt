@@ -4,7 +4,7 @@ use mathlib.Core.List.{List, [], _++_}
 use Rattle.months.specs.Series.{firstYear, lastYear}
 use Rattle.year.specs.Answer.{answerOf}
 use Rattle.year.specs.declared.Answer.{Answer, the-variants.Stated, the-variants.Refused}
-use Rattle.page.specs.Line.{refusalLine}
+use Rattle.refusal.specs.Line.{refusalLine}
 use Rattle.stated.specs.Lines.{yearLines}
 
 -- a year's own lines, and the later years where it is stated: a refused year prints its refusal in place of its four lines and is the last

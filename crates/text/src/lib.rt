@@ -29,7 +29,7 @@ pub fn lay_years(book: &[u8], page: &mut [u8]) -> usize
                 at = stated::lay_year(page, at, year, figures);
             }
             Answer::Refused(number, place) => {
-                return page::lay_refusal(page, at, number, place);
+                return refusal::lay_refusal(page, at, number, place);
             }
         }
     }

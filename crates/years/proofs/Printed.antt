@@ -15,7 +15,7 @@ use Rattle.book.specs.Book.{emptyBook, recordAt, answerBy, answerOf}
 use Rattle.book.specs.Run.{recordsFrom, recordsOf, onward, answerAll, bookAll}
 use Rattle.book.specs.declared.Posted.{Posted}
 use Rattle.book.specs.declared.Posted.the-variants.{Taken, Refused}
-use Rattle.page.specs.Line.{refusalLine}
+use Rattle.refusal.specs.Line.{refusalLine}
 use Rattle.feed.specs.declared.Ending.{Ending}
 use Rattle.feed.specs.Input.{bookOf, endingBy, endingOf}
 use Rattle.feed.proofs.Posting.{after, stays, parts}

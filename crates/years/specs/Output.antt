@@ -2,7 +2,7 @@
 use Prim.Native.Nat.{ℕ}
 use mathlib.Core.List.{List, []}
 use Rattle.book.specs.Book.{emptyBook}
-use Rattle.page.specs.Line.{refusalLine}
+use Rattle.refusal.specs.Line.{refusalLine}
 use Rattle.text.specs.Lines.{printed}
 use Rattle.feed.specs.{Input.bookOf, Input.endingOf, declared.Ending.Ending, declared.Ending.the-variants.Ended, declared.Ending.the-variants.Refused, declared.Ending.the-variants.Failed}
 

@@ -38,7 +38,7 @@ fn lay_output(book: &[u8], ending: Ending, page: &mut [u8]) -> usize
 {
     match ending {
         Ending::Ended => text::lay_years(book, page),
-        Ending::Refused(number, place) => page::lay_refusal(page, 0, number, place as u64),
+        Ending::Refused(number, place) => refusal::lay_refusal(page, 0, number, place as u64),
         Ending::Failed => 0,
     }
 }

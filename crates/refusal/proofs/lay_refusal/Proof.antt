@@ -1,11 +1,11 @@
 -- The line's three texts are laid one after the other. Assumes nothing.
 use native.Mathlib.Omega.{arith}
 use borrow.Author.Needs.{needs}
-use Rattle.page.specs.Line.{refusalLine}
+use Rattle.refusal.specs.Line.{refusalLine}
 use Rattle.page.proofs.Laying.{joined}
-use Rattle.page.proofs.Lengths.{refusal-length}
-use Rattle.page.proofs.lay_refusal.Statement.{statement}
-use Rattle.page.proofs.lay_refusal.Tie as tie
+use Rattle.refusal.proofs.Lengths.{refusal-length}
+use Rattle.refusal.proofs.lay_refusal.Statement.{statement}
+use Rattle.refusal.proofs.lay_refusal.Tie as tie
 
 slice-aggregate-lay-figure : tie.Need-slice-aggregate-lay-figure
 slice-aggregate-lay-figure c = search needs
