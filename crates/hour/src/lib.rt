@@ -114,10 +114,7 @@ fn weigh(kind: Kind, flow: Value, content: Value) -> Methane
     }
 }
 
-// Hundredths of a gram in a litre of methane (5.3).
-const DENSITY: u64 = 68;
-
-// A hundred for those, times the ten thousand hundredths of a per cent in the whole.
+// A hundred for the hundredths of a gram in a litre, times the ten thousand hundredths of a per cent in the whole.
 const DENSITY_PARTS: u64 = 1_000_000;
 
 impl Kind {
@@ -127,7 +124,7 @@ impl Kind {
         ensures { λ r. ⌜ r ≡ methane (gramsIn self flow content) ⌝ }
     {
         match self {
-            Kind::CubicMetres => Methane::of_grams(flow * content * DENSITY / DENSITY_PARTS),
+            Kind::CubicMetres => Methane::of_grams(flow * content * units::DENSITY / DENSITY_PARTS),
         }
     }
 }

@@ -13,3 +13,7 @@ pub use solids::Solids;
 
 // What methane warms the air by, gram for gram, as against carbon dioxide (5.3, 5.10).
 pub const POTENTIAL: u64 = 21;
+
+// Hundredths of a kilogram of methane in a cubic metre, which are hundredths of a gram in a litre (5.3). Times the
+// potential it is 01's 14.28.
+pub const DENSITY: u64 = 68;

@@ -2,9 +2,7 @@ ghost use mathlib.Core.Path.{_≡_};
 ghost use Prim.Native.Nat.{_+_, _*_, _-_, _≤_, _<_, _^_};
 ghost use Rattle.units.specs.Grams.{solids, shareOf, b0RuleOf};
 use crate::Co2e;
-
-// Hundredths of a kilogram of methane in a cubic metre (5.3). Times the potential it is 01's 14.28.
-const DENSITY: u64 = 68;
+use crate::DENSITY;
 
 // Hundredths of B0 by hundredths of a kilogram.
 const B0_RULE_PARTS: u64 = 10_000;
