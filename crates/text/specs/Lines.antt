@@ -1,5 +1,5 @@
 -- What the year program prints for a book (01, "Figures to check"). Assumes nothing.
-use Prim.Native.Nat.{ℕ, zero, suc, _+_}
+use Prim.Native.Nat.{ℕ, zero, suc, _+_, _-_}
 use mathlib.Core.List.{List, [], _++_}
 use Rattle.months.specs.Series.{firstYear, lastYear}
 use Rattle.year.specs.Answer.{answerOf}
@@ -17,6 +17,9 @@ unfoldable pub yearsFrom : List ℕ → ℕ → ℕ → List ℕ
 yearsFrom book year zero = []
 yearsFrom book year (suc n) = answerLines year (answerOf book year) (yearsFrom book (year + 1) n)
 
--- the years that are printed: 1 to 10
+-- how many years are printed: 1 to 10
+abbrev pub years : ℕ
+years = suc lastYear - firstYear
+
 unfoldable pub printed : List ℕ → List ℕ
-printed book = yearsFrom book firstYear lastYear
+printed book = yearsFrom book firstYear years
