@@ -9,8 +9,8 @@ use lib.Dec.{leb}
 use Rattle.slots.specs.Reads.{firstYearOf, temperatureOf, projectMethaneOf}
 use Rattle.months.specs.Series.{filled, monthsBefore, monthsThrough}
 use Rattle.needs.specs.Complete.{anyLine, unmeasured, headless, unentered, lacks, lackingOf, completeOf}
-use Rattle.needs.specs.declared.complete.Completeness.{Completeness}
-use Rattle.needs.specs.declared.complete.Completeness.the-variants.{Complete, Lacking}
+use Rattle.needs.specs.declared.Completeness.{Completeness}
+use Rattle.needs.specs.declared.Completeness.the-variants.{Complete, Lacking}
 
 module _ (book : List ℕ) (year m : ℕ) where
   pub lacks-temperature : unmeasured (temperatureOf book m) ≡ true → true ≡ lacks book year m

@@ -3,4 +3,3 @@ pub mod Ranges
 pub mod Passing
 pub mod Lacking
 pub mod Lined
-pub mod Sharing

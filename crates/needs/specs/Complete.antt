@@ -9,7 +9,7 @@ use Rattle.herd.specs.Herd.{categoryOf, headOf}
 use Rattle.slots.specs.declared.Seen.{Seen, the-variants.Nothing, the-variants.Value}
 use Rattle.slots.specs.declared.Warmth.{Warmth, the-variants.Unknown, the-variants.Tenths}
 use Rattle.months.specs.Series.{filled, monthsBefore, monthsThrough}
-use Rattle.needs.specs.declared.complete.Completeness.{Completeness, the-variants.Complete, the-variants.Lacking}
+use Rattle.needs.specs.declared.Completeness.{Completeness, the-variants.Complete, the-variants.Lacking}
 
 -- there is a line
 unfoldable pub anyLine : List ℕ → Bool

@@ -5,8 +5,9 @@ use lib.{Dec.ltb, Dec.leb, IntN.natAbs}
 use Rattle.laws.specs.Counting.{some}
 use Rattle.keys.specs.Table.{categories}
 use Rattle.months.specs.Series.{firstYear, lastYear}
-use Rattle.needs.specs.{Complete.completeOf, Shares.overOf}
-use Rattle.needs.specs.declared.complete.Completeness.{Completeness, the-variants.Complete, the-variants.Lacking}
+use Rattle.needs.specs.Complete.{completeOf}
+use Rattle.needs.specs.declared.Completeness.{Completeness, the-variants.Complete, the-variants.Lacking}
+use Rattle.shares.specs.Shares.{overOf}
 use Rattle.credit.specs.{Credit.operatorOf, Credit.modelledOf, Credit.meteredOf, Credit.totalOf, declared.Operator.Operator}
 use Rattle.year.specs.{Figures.figuresOf, declared.Answer.Answer, declared.Answer.the-variants.Stated, declared.Answer.the-variants.Refused}
 use Rattle.lines.specs.{Lines.headsOf, Lines.all, Lines.sumsOf, declared.Sums.Sums}

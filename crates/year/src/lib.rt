@@ -4,7 +4,7 @@ ghost use Rattle.book.specs.Valid.{Valid};
 ghost use Rattle.months.specs.Asks.{InPeriod};
 ghost use Rattle.year.specs.Figures.{figuresOf};
 ghost use Rattle.year.specs.Answer.{answerOf, wholeYear};
-use needs::complete::Completeness;
+use needs::Completeness;
 use units::Co2e;
 use units::Solids;
 
@@ -53,7 +53,7 @@ pub fn year(book: &[u8], year: u64) -> Answer
         return Answer::Refused(NO_SUCH_YEAR, 0);
     }
     let counted = year as usize;
-    let found = needs::complete::complete(book, counted);
+    let found = needs::complete(book, counted);
     let Completeness::Complete = found else {
         return Answer::Refused(LACKING, found.place());
     };
@@ -66,7 +66,7 @@ fn whole_year(book: &[u8], year: usize) -> Answer
     requires { ⌜ InPeriod year ⌝ }
     ensures { λ r. ⌜ r ≡ wholeYear (now (book .entry)) year ⌝ }
 {
-    let over = needs::shares::over_shared(book);
+    let over = shares::over_shared(book);
     if over <= keys::CATEGORIES {
         return Answer::Refused(OVER_SHARED, over as u64);
     }

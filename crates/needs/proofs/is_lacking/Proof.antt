@@ -1,4 +1,4 @@
--- `complete::is_lacking` meets its contract, by what the month is found to lack.
+-- `needs::is_lacking` meets its contract, by what the month is found to lack.
 -- Assumes nothing.
 use mathlib.Core.Bool.{false}
 use mathlib.Core.Path.{ap, sym, _∙_, _≡_}
@@ -9,8 +9,8 @@ use Rattle.slots.specs.Reads.{temperatureOf}
 use Rattle.months.specs.Series.{filled}
 use Rattle.needs.specs.Complete.{headless, unmeasured}
 use Rattle.needs.proofs.Lacking.{lacks-head, lacks-nothing, lacks-project, lacks-temperature}
-use Rattle.needs.proofs.complete.is_lacking.Statement.{statement}
-use Rattle.needs.proofs.complete.is_lacking.Tie as tie
+use Rattle.needs.proofs.is_lacking.Statement.{statement}
+use Rattle.needs.proofs.is_lacking.Tie as tie
 
 measured : (c : tie.Else1) →
     unmeasured (temperatureOf (now (c .before .before .before .before .before .args .book)) (c .before .before .before .before .before .args .month)) ≡ false

@@ -16,9 +16,9 @@ use Rattle.keys.specs.Table.{lines, categories}
 use Rattle.book.specs.Valid.{Valid}
 use Rattle.herd.specs.Herd.{lineOf}
 use Rattle.herd.specs.declared.Line.{Line}
-use Rattle.needs.specs.Asks.{Shared}
-use Rattle.needs.specs.Shares.{shareIn, sharesOf}
-use Rattle.needs.proofs.Ranges.{share-ranged}
+use Rattle.shares.specs.Asks.{Shared}
+use Rattle.shares.specs.Shares.{shareIn, sharesOf}
+use Rattle.shares.proofs.Ranges.{share-ranged}
 
 module _ (book : List ℕ) where
   abbrev each : ℕ → ℕ → ℕ

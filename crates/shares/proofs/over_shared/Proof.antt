@@ -10,10 +10,10 @@ use lib.ListN.{getD}
 use Rattle.laws.proofs.Counting.{begins, found, none, passed}
 use Rattle.laws.specs.Counting.{first, firstFrom}
 use Rattle.keys.specs.Table.{categories}
-use Rattle.needs.specs.Shares.{overOf, sharesOf, wholeShare}
-use Rattle.needs.proofs.Sharing.{shared-all}
-use Rattle.needs.proofs.shares.over_shared.Statement.{statement}
-use Rattle.needs.proofs.shares.over_shared.Tie as tie
+use Rattle.shares.specs.Shares.{overOf, sharesOf, wholeShare}
+use Rattle.shares.proofs.Sharing.{shared-all}
+use Rattle.shares.proofs.over_shared.Statement.{statement}
+use Rattle.shares.proofs.over_shared.Tie as tie
 
 abbrev Inv-loop : tie.InvT-loop
 Inv-loop book shares category₀ category =

@@ -1,4 +1,4 @@
--- `complete::first_lacking` meets its contract: the search passes each month that lacks nothing.
+-- `needs::first_lacking` meets its contract: the search passes each month that lacks nothing.
 -- Assumes nothing.
 use Prim.Native.Nat.{_+_, _-_, _≤_}
 use mathlib.Core.Path.{sym, _∙_, _≡_}
@@ -7,8 +7,8 @@ use Rattle.laws.proofs.Counting.{begins, found, none, passed}
 use Rattle.laws.specs.Counting.{first, firstFrom}
 use Rattle.months.specs.Series.{monthsThrough}
 use Rattle.needs.specs.Complete.{lackingOf, lacks}
-use Rattle.needs.proofs.complete.first_lacking.Statement.{statement}
-use Rattle.needs.proofs.complete.first_lacking.Tie as tie
+use Rattle.needs.proofs.first_lacking.Statement.{statement}
+use Rattle.needs.proofs.first_lacking.Tie as tie
 
 abbrev Inv-loop : tie.InvT-loop
 Inv-loop book year lined past month₀ month =

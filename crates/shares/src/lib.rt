@@ -1,9 +1,9 @@
-// Refusal 7: shares of a category that sum above the whole.
+// The shares of a category, which have to fit into the whole: refusal 7.
 ghost use mathlib.Core.Path.{_≡_};
 ghost use Rattle.book.specs.Valid.{Valid};
 ghost use Rattle.keys.specs.Table.{lines};
-ghost use Rattle.needs.specs.Shares.{overOf};
-ghost use Rattle.needs.specs.Asks.{Shared};
+ghost use Rattle.shares.specs.Shares.{overOf};
+ghost use Rattle.shares.specs.Asks.{Shared};
 
 // Shares count ten-thousandths.
 const WHOLE_SHARE: u64 = 10_000;

@@ -5,11 +5,11 @@ use mathlib.Core.Path.{_≡_}
 use native.Mathlib.Omega.{arith}
 use denote.Ref.{now}
 use Rattle.keys.specs.Table.{lines}
-use Rattle.needs.specs.Asks.{Shared}
-use Rattle.needs.proofs.Sharing.{shared-more, shared-most, shared-none}
-use Rattle.needs.proofs.shares.shares.Statement.{statement}
-use Rattle.needs.proofs.shares.shares.Tie as tie
-use Rattle.needs.proofs.Ranges.{ShareRanged, share-ranged}
+use Rattle.shares.specs.Asks.{Shared}
+use Rattle.shares.proofs.Sharing.{shared-more, shared-most, shared-none}
+use Rattle.shares.proofs.shares.Statement.{statement}
+use Rattle.shares.proofs.shares.Tie as tie
+use Rattle.shares.proofs.Ranges.{ShareRanged, share-ranged}
 
 abbrev Inv-loop : tie.InvT-loop
 Inv-loop book shares₀ line₀ shares line = (1 ≤ line) × (line ≤ lines + 1) × Shared book (line - 1) shares
