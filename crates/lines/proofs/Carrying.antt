@@ -20,7 +20,7 @@ use Rattle.slots.specs.declared.Seen.the-variants.{Value}
 use Rattle.months.specs.Series.{monthsBefore, monthsThrough}
 use Rattle.lines.specs.Asks.{carriedBy, Carried}
 use Rattle.lines.specs.Lines.{anaerobic, lineIn, monthAt}
-use Rattle.lines.specs.declared.Sums.{Sums}
+use Rattle.sums.specs.declared.Sums.{Sums}
 use Rattle.lines.proofs.BySystem.{anaerobic-is}
 
 -- before the first month nothing is carried

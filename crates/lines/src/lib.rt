@@ -2,23 +2,22 @@
 // for the others.
 ghost use mathlib.Core.Path.{_≡_};
 ghost use mathlib.Core.Bool.{Bool, false};
-ghost use Prim.Native.Nat.{ℕ, _+_, _-_, _≤_, _<_, _^_};
+ghost use Prim.Native.Nat.{ℕ, _+_, _-_, _≤_};
 ghost use Rattle.calendar.specs.Days.{monthsInYear};
 ghost use Rattle.run.specs.Run.{runOf, yearOf};
-ghost use Rattle.lagoon.specs.Asks.{gramsMost};
 ghost use Rattle.keys.specs.Table.{lines, categories, months};
 ghost use Rattle.book.specs.Valid.{Valid};
 ghost use Rattle.herd.specs.Herd.{lineOf, drainedOf};
 ghost use Rattle.months.specs.Series.{monthsBefore, daysAt, factorAt};
 ghost use Rattle.months.specs.Asks.{InPeriod, Holds};
-ghost use Rattle.lines.specs.Lines.{headAt, enteredAt, monthAt, nothing, baselineAlone, anaerobicOf, headsOf, otherOf, lineIn, plus, all, sumsOf};
-ghost use Rattle.lines.specs.Asks.{carriedBy, Carried, allGrams};
+ghost use Rattle.lines.specs.Lines.{headAt, enteredAt, monthAt, headsOf, otherOf, lineIn, all, sumsOf};
+ghost use Rattle.lines.specs.Asks.{carriedBy, Carried};
 use herd::Line;
 use lagoon::Standing;
 use months::MONTHS_IN_YEAR;
 use run::Totals;
 use slots::Seen;
-use units::Co2e;
+use sums::Sums;
 use units::Solids;
 
 // A number for each line.
@@ -35,15 +34,6 @@ const DAYS_IN_YEAR: u64 = 365;
 
 // A conversion factor counts ten-thousandths.
 const CONVERSION_PARTS: u64 = 10_000;
-
-// Sums over lines: solids of the anaerobic ones, and the baseline.
-pub struct Sums {
-    pub entered: Solids,
-    pub degraded: Solids,
-    pub removed: Solids,
-    pub carried: Solids,
-    pub baseline: Co2e,
-}
 
 // All lines of a year. What each carries past the year before is worked out first, from the first month.
 pub fn sums_of(book: &[u8], year: usize) -> Sums
@@ -229,61 +219,4 @@ fn other(book: &[u8], year: usize, line: usize, numbers: Line) -> Sums
     let yearly = Solids::of_grams(daily * DAYS_IN_YEAR);
     let degraded = yearly.share(numbers.conversion, CONVERSION_PARTS);
     Sums::baseline_alone(degraded.b0_rule(numbers.b0, units::POTENTIAL))
-}
-
-impl Sums {
-    fn nothing() -> Self
-        ensures { λ r. ⌜ r ≡ nothing ⌝ }
-    {
-        Sums::baseline_alone(Co2e::of_grams(0))
-    }
-
-    fn baseline_alone(baseline: Co2e) -> Self
-        ensures { λ r. ⌜ r ≡ baselineAlone baseline ⌝ }
-    {
-        let none = Solids::of_grams(0);
-        Sums {
-            entered: none,
-            degraded: none,
-            removed: none,
-            carried: none,
-            baseline,
-        }
-    }
-
-    // Of an anaerobic line, by its year's solids.
-    fn anaerobic(totals: Totals, b0: u64) -> Self
-        requires { ⌜ (totals .degraded .0 < gramsMost) × (b0 ≤ 100) ⌝ }
-        ensures { λ r. ⌜ r ≡ anaerobicOf totals b0 ⌝ }
-    {
-        let entered = totals.entered;
-        let degraded = totals.degraded;
-        let removed = totals.removed;
-        let standing = totals.standing;
-        Sums {
-            entered,
-            degraded,
-            removed,
-            carried: standing.carried(),
-            baseline: degraded.b0_rule(b0, units::POTENTIAL),
-        }
-    }
-
-    fn plus(self, other: Self) -> Self
-        requires { ⌜ allGrams self + allGrams other < 2 ^ 64 ⌝ }
-        ensures { λ r. ⌜ r ≡ plus self other ⌝ }
-    {
-        let entered = self.entered;
-        let degraded = self.degraded;
-        let removed = self.removed;
-        let carried = self.carried;
-        let baseline = self.baseline;
-        Sums {
-            entered: entered.plus(other.entered),
-            degraded: degraded.plus(other.degraded),
-            removed: removed.plus(other.removed),
-            carried: carried.plus(other.carried),
-            baseline: baseline.plus(other.baseline),
-        }
-    }
 }

@@ -1,8 +1,8 @@
 -- `Sums::plus` meets its contract, figure by figure.
 -- Assumes nothing.
 use borrow.Author.Needs.{needs}
-use Rattle.lines.proofs.Sums.plus.Statement.{statement}
-use Rattle.lines.proofs.Sums.plus.Tie as tie
+use Rattle.sums.proofs.Sums.plus.Statement.{statement}
+use Rattle.sums.proofs.Sums.plus.Tie as tie
 
 plus-requires : tie.Need-plus-requires
 plus-requires c κs = search needs

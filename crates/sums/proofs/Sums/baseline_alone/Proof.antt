@@ -1,8 +1,8 @@
 -- `Sums::baseline_alone` meets its contract.
 -- Assumes nothing.
 use borrow.Author.Needs.{needs}
-use Rattle.lines.proofs.Sums.baseline_alone.Statement.{statement}
-use Rattle.lines.proofs.Sums.baseline_alone.Tie as tie
+use Rattle.sums.proofs.Sums.baseline_alone.Statement.{statement}
+use Rattle.sums.proofs.Sums.baseline_alone.Tie as tie
 
 of-grams-requires : tie.Need-of-grams-requires
 of-grams-requires c κs = search needs

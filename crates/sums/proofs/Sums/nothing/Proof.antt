@@ -2,8 +2,8 @@
 -- Assumes nothing.
 use mathlib.Core.Path.{_∙_}
 use borrow.Author.Needs.{needs}
-use Rattle.lines.proofs.Sums.nothing.Statement.{statement}
-use Rattle.lines.proofs.Sums.nothing.Tie as tie
+use Rattle.sums.proofs.Sums.nothing.Statement.{statement}
+use Rattle.sums.proofs.Sums.nothing.Tie as tie
 
 of-grams-requires : tie.Need-of-grams-requires
 of-grams-requires c κs = search needs

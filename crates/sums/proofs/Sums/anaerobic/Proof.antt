@@ -1,8 +1,8 @@
 -- `Sums::anaerobic` meets its contract.
 -- Assumes nothing.
 use borrow.Author.Needs.{needs}
-use Rattle.lines.proofs.Sums.anaerobic.Statement.{statement}
-use Rattle.lines.proofs.Sums.anaerobic.Tie as tie
+use Rattle.sums.proofs.Sums.anaerobic.Statement.{statement}
+use Rattle.sums.proofs.Sums.anaerobic.Tie as tie
 
 carried-requires : tie.Need-carried-requires
 carried-requires c κs = search needs
