@@ -6,7 +6,7 @@ use lib.Ieee.{round}
 use lib.ListN.{replicate}
 use Rattle.units.specs.Grams.{methane}
 use Rattle.reading.specs.Exact.{isUpTo, timesDown, scaledOf}
-use Rattle.reading.specs.Hour.{readingOf}
+use Rattle.state.specs.State.{readingOf}
 use Rattle.laws.specs.Counting.{sum, firstFrom}
 use Rattle.series.specs.Series.{amount}
 use Rattle.gaps.specs.Filling.{startOf, totalOf, averageOf, fillOf, filled}

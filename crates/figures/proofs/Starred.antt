@@ -18,7 +18,7 @@ use Rattle.lagoon.specs.declared.Outcome.{Outcome}
 use Rattle.lagoon.specs.Month.{enteredOf, emptyOf, outcomeOf}
 use Rattle.reading.specs.declared.Measure.the-variants.{Whole}
 use Rattle.reading.specs.Exact.{isUpTo, timesDown, scaledOf, hundredthsOf}
-use Rattle.reading.specs.Hour.{readingOf}
+use Rattle.state.specs.State.{readingOf}
 use Rattle.laws.specs.Counting.{sum}
 use Rattle.series.specs.Series.{amount}
 use Rattle.gaps.specs.Filling.{filled}

@@ -4,8 +4,8 @@ ghost use Prim.Native.Nat.{_+_, _*_, _≤_};
 ghost use lib.ListN.{length, take};
 ghost use Rattle.series.specs.Series.{mostHours};
 ghost use Rattle.format.specs.Format.{headerBytes, floatBytes, isOtherMark, floatsAt, lentOf, statedOf};
+use float::FLOAT;
 use meter::MonthAnswer;
-use reading::stored::FLOAT;
 
 // Refused: a mark other than CM.
 const UNKNOWN_MARK: u8 = 2;
@@ -94,7 +94,7 @@ fn floats(input: &[u8], at: usize, count: usize) -> [f32; series::MOST_HOURS]
 {
     let mut out = [0.0f32; series::MOST_HOURS];
     for i in 0..count {
-        out[i] = reading::stored::float_at(input, at + FLOAT * i);
+        out[i] = float::float_at(input, at + FLOAT * i);
     }
     out
 }

@@ -11,11 +11,11 @@ use lib.Ieee.{Float}
 use Rattle.units.specs.Grams.{shareOf}
 use Rattle.reading.specs.declared.Measure.{Measure}
 use Rattle.reading.specs.declared.Measure.the-variants.{Whole, TurnedDown}
-use Rattle.reading.specs.declared.hour.Reading.{Reading}
-use Rattle.reading.specs.declared.hour.Reading.the-variants.{Both, NoFlow, NoContent, Neither}
 use Rattle.reading.specs.Exact.{litresOf, hundredthsOf}
-use Rattle.reading.specs.Hour.{isOut, stateAt, readingAt}
 use Rattle.reading.proofs.Most.{scaled-most}
+use Rattle.state.specs.declared.Reading.{Reading}
+use Rattle.state.specs.declared.Reading.the-variants.{Both, NoFlow, NoContent, Neither}
+use Rattle.state.specs.State.{isOut, stateAt, readingAt}
 use Rattle.series.specs.declared.Value.{Value}
 use Rattle.series.specs.declared.Value.the-variants.{Recorded, Missing}
 use Rattle.series.specs.Series.{amount, isRecorded}

@@ -3,9 +3,10 @@ use Prim.Native.Nat.{ℕ, _*_, _/_}
 use mathlib.Core.{Bool.Bool, Bool.true, Bool.false, Bool._||_, Bool.cond, List.List}
 use lib.{Dec.ltb, Ieee.Float}
 use Rattle.units.specs.Grams.{density, shareOf}
-use Rattle.reading.specs.{Exact.litresOf, Exact.hundredthsOf, Hour.isOut, Hour.stateAt, Hour.readingAt}
+use Rattle.reading.specs.Exact.{litresOf, hundredthsOf}
 use Rattle.reading.specs.declared.Measure.{Measure, the-variants.Whole, the-variants.TurnedDown}
-use Rattle.reading.specs.declared.hour.Reading.{Reading, the-variants.Both, the-variants.NoFlow, the-variants.NoContent, the-variants.Neither}
+use Rattle.state.specs.State.{isOut, stateAt, readingAt}
+use Rattle.state.specs.declared.Reading.{Reading, the-variants.Both, the-variants.NoFlow, the-variants.NoContent, the-variants.Neither}
 use Rattle.series.specs.{declared.Value.Value, declared.Value.the-variants.Recorded, declared.Value.the-variants.Missing, Series.amount, Series.isRecorded}
 use Rattle.hour.specs.declared.{Hour.Hour, Hour.the-variants.Taken, Hour.the-variants.Refused, Kind.Kind, Kind.the-variants.CubicMetres}
 

@@ -9,8 +9,8 @@ ghost use Rattle.series.specs.Series.{amount, isRecorded};
 ghost use Rattle.hour.specs.Hour.{taking, recordedOf, hourAt, gramsIn, wholeEfficiency, hourOf};
 ghost use Rattle.hour.specs.Room.{mostFlow, mostContent};
 use reading::Measure;
-use reading::hour::Reading;
 use series::Value;
+use state::Reading;
 use units::Methane;
 
 // A device that destroys all has this efficiency.
@@ -33,7 +33,7 @@ pub fn recorded_at(flows: &[f32], contents: &[f32], states: &[u8], hour: usize) 
     if MOST_STATE < states[hour] {
         return Hour::Refused;
     }
-    recorded(reading::hour::reading_at(flows, contents, states, hour))
+    recorded(state::reading_at(flows, contents, states, hour))
 }
 
 // What a reading records, or that its hour is refused: each value that is present is turned down or counted in one test.
@@ -82,7 +82,7 @@ pub fn hour_grams(
     requires { ⌜ (efficiency ≤ wholeEfficiency) × (amount flow ≤ mostFlow kind) × (amount content ≤ mostContent) ⌝ }
     ensures { λ r. ⌜ r ≡ methane (hourOf kind efficiency state «recorded_flow» «recorded_content» flow content) ⌝ }
 {
-    if reading::hour::is_out(state) {
+    if state::is_out(state) {
         return Methane::of_grams(0);
     }
     if !is_either(recorded_flow, recorded_content) {

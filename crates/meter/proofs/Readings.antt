@@ -6,7 +6,7 @@ use mathlib.Core.List.{List}
 use lib.Ieee.{Float, nan}
 use lib.ListN.{length, getD, take, List·getD-eq-default}
 use lib.Seq.{getD-take, length-take-le}
-use Rattle.reading.specs.Hour.{readingOf}
+use Rattle.state.specs.State.{readingOf}
 use Rattle.series.specs.declared.Value.{Value}
 use Rattle.series.specs.declared.Value.the-variants.{Missing}
 use Rattle.series.specs.Series.{valueOf, series}

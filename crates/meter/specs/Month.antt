@@ -4,7 +4,7 @@ use mathlib.Core.{Bool.Bool, Bool.not, Bool._&&_, Bool._||_, Bool.cond, List.Lis
 use lib.{Dec.eqb, Dec.ltb, Ieee.Float, ListN.length}
 use Rattle.laws.specs.Counting.{sum, firstFrom}
 use Rattle.units.specs.Grams.{methane}
-use Rattle.reading.specs.Hour.{stateAt}
+use Rattle.state.specs.State.{stateAt}
 use Rattle.series.specs.declared.Value.{Value}
 use Rattle.gaps.specs.Filling.{filled}
 use Rattle.hour.specs.Hour.{hourAt, isRefused, flowOf, contentOf, hourOf, wholeEfficiency}

@@ -3,7 +3,7 @@ ghost use mathlib.Core.Path.{_≡_};
 ghost use Prim.Native.Nat.{ℕ, _≤_, _<_};
 ghost use lib.ListN.{length};
 ghost use Rattle.units.specs.Grams.{methane};
-ghost use Rattle.reading.specs.Hour.{stateAt};
+ghost use Rattle.state.specs.State.{stateAt};
 ghost use Rattle.series.specs.Series.{series, amount, mostHours};
 ghost use Rattle.hour.specs.Hour.{hourAt, flowOf, contentOf, wholeEfficiency};
 ghost use Rattle.hour.specs.Room.{mostFlow, mostContent};

@@ -19,7 +19,7 @@ use Rattle.book.specs.Book.{answerBy, emptyBook}
 use Rattle.book.specs.declared.Posted.the-variants.{Taken, Refused}
 use Rattle.book.proofs.Free.{empty-free}
 use Rattle.book.proofs.Kept.{empty-slot}
-use Rattle.reading.specs.Hour.{readingOf}
+use Rattle.state.specs.State.{readingOf}
 use Rattle.laws.specs.Counting.{firstFrom}
 use Rattle.hour.specs.Hour.{recordedOf, hourAt, wholeEfficiency}
 use Rattle.meter.specs.Month.{meteredOf, monthOf}

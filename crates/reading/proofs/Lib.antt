@@ -4,4 +4,3 @@ pub mod Determined
 pub mod Edges
 pub mod Most
 pub mod Product
-pub mod States

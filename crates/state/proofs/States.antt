@@ -7,8 +7,8 @@ use native.Mathlib.Omega.{arith}
 use borrow.Author.Tests.{ne-eqb}
 use lib.Ieee.{Float}
 use lib.ListN.{length, getD}
-use Rattle.reading.specs.declared.hour.Reading.the-variants.{Both, NoFlow, NoContent, Neither}
-use Rattle.reading.specs.Hour.{readingOf}
+use Rattle.state.specs.declared.Reading.the-variants.{Both, NoFlow, NoContent, Neither}
+use Rattle.state.specs.State.{readingOf}
 
 pub before-end : (l : List ℕ) (i a b : ℕ) → i < length l → getD l i a ≡ getD l i b
 before-end [] i a b h = absurd (omega arith)

@@ -2,7 +2,7 @@
 ghost use mathlib.Core.Path.{_≡_};
 ghost use Prim.Native.Nat.{_<_};
 ghost use lib.ListN.{length};
-ghost use Rattle.reading.specs.Hour.{isOut, readingAt};
+ghost use Rattle.state.specs.State.{isOut, readingAt};
 
 // Flow and content, one of them, or nothing.
 pub enum Reading {

@@ -1,11 +1,11 @@
--- `reading::stored::float_at` meets its contract, by those of `number` and `of_bits`.
+-- `float::float_at` meets its contract, by those of `number` and `of_bits`.
 -- Assumes nothing.
 use mathlib.Core.Path.{ap, _∙_}
 use native.Mathlib.Omega.{arith}
 use lib.Ieee.{binary32, ofBits}
 use borrow.Author.Needs.{needs}
-use Rattle.reading.proofs.stored.float_at.Statement.{statement}
-use Rattle.reading.proofs.stored.float_at.Tie as tie
+use Rattle.float.proofs.float_at.Statement.{statement}
+use Rattle.float.proofs.float_at.Tie as tie
 
 number-requires : tie.Need-number-requires
 number-requires c κs = search needs

@@ -1,9 +1,9 @@
--- `reading::hour::reading_at` meets its contract: each arm knows what the state's lower part is.
+-- `state::reading_at` meets its contract: each arm knows what the state's lower part is.
 -- Assumes nothing.
-use Rattle.reading.proofs.States.{state-at, state-not, both, no-flow, no-content, neither}
+use Rattle.state.proofs.States.{state-at, state-not, both, no-flow, no-content, neither}
 use borrow.Author.Needs.{needs}
-use Rattle.reading.proofs.hour.reading_at.Statement.{statement}
-use Rattle.reading.proofs.hour.reading_at.Tie as tie
+use Rattle.state.proofs.reading_at.Statement.{statement}
+use Rattle.state.proofs.reading_at.Tie as tie
 
 shared-slice-read-match : tie.Need-shared-slice-read-match
 shared-slice-read-match c = search needs

@@ -2,7 +2,7 @@
 use Prim.Native.Nat.{ℕ, _/_, _%_}
 use mathlib.Core.{Bool.Bool, Bool.cond, List.List}
 use lib.{Dec.eqb, Ieee.Float, Ieee.nan, ListN.getD}
-use Rattle.reading.specs.declared.hour.Reading.{Reading, the-variants.Both, the-variants.NoFlow, the-variants.NoContent, the-variants.Neither}
+use Rattle.state.specs.declared.Reading.{Reading, the-variants.Both, the-variants.NoFlow, the-variants.NoContent, the-variants.Neither}
 
 -- state 0: both present; 1: no flow; 2: no content; 3: neither. The 4 that is added when the device was out changes nothing here, and a
 -- missing value's bits are ignored.

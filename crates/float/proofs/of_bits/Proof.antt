@@ -1,4 +1,4 @@
--- `reading::stored::of_bits` meets its contract: the test passes exactly at a NaN's pattern, and 0.0 / 0.0 is the NaN.
+-- `float::of_bits` meets its contract: the test passes exactly at a NaN's pattern, and 0.0 / 0.0 is the NaN.
 -- Assumes nothing.
 use borrow.Author.Needs.{needs}
 use borrow.Author.Tests.{lt-ltb, le-ltb}
@@ -9,8 +9,8 @@ use lib.Dec.{T, ltb}
 use lib.Bits.{bitAnd, and-mask}
 use lib.Ieee.{Float, nan, inf, fin, binary32, isNan, nanBits, div, ofBits}
 use lib.Ieee.Bits.{nanBits-is, nanBits-above}
-use Rattle.reading.proofs.stored.of_bits.Statement.{statement}
-use Rattle.reading.proofs.stored.of_bits.Tie as tie
+use Rattle.float.proofs.of_bits.Statement.{statement}
+use Rattle.float.proofs.of_bits.Tie as tie
 
 -- 0.0 / 0.0 as MIR has it, with 0.0 by its bit pattern
 zero-by-zero : div binary32 (ofBits binary32 0) (ofBits binary32 0) ≡ nan
