@@ -1,4 +1,4 @@
--- `month::format::floats` meets its contract. The loop's invariant: the floats passed stand in the array.
+-- `format::floats` meets its contract. The loop's invariant: the floats passed stand in the array.
 -- Assumes nothing.
 use mathlib.Core.Path.{_≡_, refl, _∙_}
 use Prim.Native.Nat.{ℕ, _+_, _*_, _-_, _≤_, _<_}

@@ -1,4 +1,4 @@
--- `month::format::is_other_mark` meets its contract: each return knows the tests that led there.
+-- `format::is_other_mark` meets its contract: each return knows the tests that led there.
 -- Assumes nothing.
 use Prim.Native.Char.{code}
 use borrow.Author.Tests.{lt-leb, le-leb, eq-eqb, ne-eqb}

@@ -1,4 +1,4 @@
--- `month::format::lent` meets its contract: more values than a month has hours are no month, and else the two arrays begin with the floats.
+-- `format::lent` meets its contract: more values than a month has hours are no month, and else the two arrays begin with the floats.
 -- Assumes nothing.
 use mathlib.Core.Path.{sym}
 use Prim.Native.Nat.{_+_, _*_}

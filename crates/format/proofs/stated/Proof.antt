@@ -1,4 +1,4 @@
--- `month::format::stated` meets its contract: each return knows the tests that led there.
+-- `format::stated` meets its contract: each return knows the tests that led there.
 -- Assumes nothing.
 use mathlib.Core.Path.{sym, _∙_}
 use Prim.Native.Nat.{_+_, _*_}
