@@ -1,15 +1,39 @@
-// The lines of a year, and their sums. The years before it come first, one after the other, from empty
-// lagoons, since each line starts from what it carried past the year before.
+// The lines of a year: Equation 5.3 for the anaerobic ones, month by month from the first, and Equation 5.4
+// for the others.
 ghost use mathlib.Core.Path.{_≡_};
-ghost use Prim.Native.Nat.{_-_};
+ghost use mathlib.Core.Bool.{Bool, false};
+ghost use Prim.Native.Nat.{ℕ, _+_, _-_, _≤_};
+ghost use Rattle.calendar.specs.Days.{monthsInYear};
+ghost use Rattle.run.specs.Run.{runOf, yearOf};
+ghost use Rattle.keys.specs.Table.{lines, categories, months};
 ghost use Rattle.book.specs.Valid.{Valid};
-ghost use Rattle.months.specs.Asks.{InPeriod};
-ghost use Rattle.lines.specs.Lines.{all, sumsOf};
-ghost use Rattle.lines.specs.Asks.{Carried};
+ghost use Rattle.herd.specs.Herd.{lineOf, drainedOf};
+ghost use Rattle.months.specs.Series.{monthsBefore, daysAt, factorAt};
+ghost use Rattle.months.specs.Asks.{InPeriod, Holds};
+ghost use Rattle.lines.specs.Lines.{headAt, enteredAt, monthAt, headsOf, otherOf, lineIn, all, sumsOf};
+ghost use Rattle.lines.specs.Asks.{carriedBy, Carried};
+use herd::Line;
+use lagoon::Standing;
+use months::MONTHS_IN_YEAR;
+use run::Totals;
+use slots::Seen;
 use sums::Sums;
+use units::Solids;
 
 // A number for each line.
 const LINES: usize = keys::LINES;
+
+// LN's system 0.
+const ANAEROBIC: u64 = 0;
+
+// Twelve, for the average of the year's heads, times what brings the fields' units to grams.
+const DAILY_PARTS: u64 = 120_000_000;
+
+// In leap years too.
+const DAYS_IN_YEAR: u64 = 365;
+
+// A conversion factor counts ten-thousandths.
+const CONVERSION_PARTS: u64 = 10_000;
 
 // All lines of a year. What each carries past the year before is worked out first, from the first month.
 pub fn sums_of(book: &[u8], year: usize) -> Sums
@@ -47,10 +71,152 @@ fn sums_from(book: &[u8], year: usize, carried: &mut [u64]) -> Sums
     let factors = months::factors(book, year);
     let mut sums = Sums::nothing();
     for line in 1..=LINES {
-        let own = line::line_in(book, year, line, carried[line - 1], &days, &factors);
+        let own = line_in(book, year, line, carried[line - 1], &days, &factors);
         let past = own.carried;
         carried[line - 1] = past.grams();
         sums = sums.plus(own);
     }
     sums
+}
+
+// One line, by its system, from what it carried past the year before.
+fn line_in(
+    book: &[u8],
+    year: usize,
+    line: usize,
+    carried: u64,
+    days: &[u64],
+    factors: &[u64],
+) -> Sums
+    requires { ⌜ Valid (now book) ⌝ }
+    requires { ⌜ InPeriod year ⌝ }
+    requires { ⌜ line ≤ lines ⌝ }
+    requires { ⌜ carried ≡ carriedBy (now book) (year - 1) line ⌝ }
+    requires { ⌜ Holds ℕ 0 (monthsBefore year) monthsInYear (daysAt (now book)) (now days) ⌝ }
+    requires { ⌜ Holds ℕ 0 (monthsBefore year) monthsInYear (factorAt (now book)) (now factors) ⌝ }
+    ensures { λ r. ⌜ r ≡ lineIn (now (book .entry)) year line ⌝ }
+{
+    let Seen::Value(system) = herd::system(book, line) else {
+        return Sums::nothing();
+    };
+    let numbers = herd::line_at(book, line);
+    if system == ANAEROBIC {
+        let from = Standing::of(Solids::of_grams(carried));
+        let totals = solids(book, year, line, numbers, from, days, factors);
+        return Sums::anaerobic(totals, numbers.b0);
+    }
+    other(book, year, line, numbers)
+}
+
+// The year's solids of an anaerobic line, from what it entered and when it was drained: its twelve
+// months, from the standing that those before them handed on.
+fn solids(
+    book: &[u8],
+    year: usize,
+    line: usize,
+    numbers: Line,
+    from: Standing,
+    days: &[u64],
+    factors: &[u64],
+) -> Totals
+    requires { ⌜ Valid (now book) ⌝ }
+    requires { ⌜ InPeriod year ⌝ }
+    requires { ⌜ line ≤ lines ⌝ }
+    requires { ⌜ numbers ≡ lineOf (now book) line ⌝ }
+    requires { ⌜ from ≡ runOf (monthAt (now book) line) (monthsBefore year) .standing ⌝ }
+    requires { ⌜ Holds ℕ 0 (monthsBefore year) monthsInYear (daysAt (now book)) (now days) ⌝ }
+    requires { ⌜ Holds ℕ 0 (monthsBefore year) monthsInYear (factorAt (now book)) (now factors) ⌝ }
+    ensures { λ r. ⌜ r ≡ yearOf (monthAt (now (book .entry)) line) year ⌝ }
+{
+    let entered = entries(book, year, line, numbers, days);
+    let drained = drains(book, year, line);
+    run::run(from, &entered, factors, &drained)
+}
+
+// What a line enters, month by month of the year, in grams.
+fn entries(
+    book: &[u8],
+    year: usize,
+    line: usize,
+    numbers: Line,
+    days: &[u64],
+) -> [u64; MONTHS_IN_YEAR]
+    requires { ⌜ Valid (now book) ⌝ }
+    requires { ⌜ InPeriod year ⌝ }
+    requires { ⌜ line ≤ lines ⌝ }
+    requires { ⌜ numbers ≡ lineOf (now book) line ⌝ }
+    requires { ⌜ Holds ℕ 0 (monthsBefore year) monthsInYear (daysAt (now book)) (now days) ⌝ }
+    ensures { λ r. ⌜ Holds ℕ 0 (monthsBefore year) monthsInYear (λ m. enteredAt (now (book .entry)) line m .0) r ⌝ }
+{
+    let before = months::months_before(year);
+    let mut entries = [0u64; MONTHS_IN_YEAR];
+    for passed in 0..MONTHS_IN_YEAR {
+        let month = before + passed + 1;
+        entries[passed] = entry(book, line, numbers, month, days[passed]).grams();
+    }
+    entries
+}
+
+fn entry(book: &[u8], line: usize, numbers: Line, month: usize, days: u64) -> Solids
+    requires { ⌜ Valid (now book) ⌝ }
+    requires { ⌜ (line ≤ lines) × (month ≤ months) ⌝ }
+    requires { ⌜ numbers ≡ lineOf (now book) line ⌝ }
+    requires { ⌜ days ≡ daysAt (now book) month ⌝ }
+    ensures { λ r. ⌜ r ≡ enteredAt (now (book .entry)) line month ⌝ }
+{
+    let head = head(book, numbers.category as usize, month);
+    lagoon::entered(head, numbers.solids, numbers.mass, numbers.share, days)
+}
+
+fn head(book: &[u8], category: usize, month: usize) -> u64
+    requires { ⌜ Valid (now book) ⌝ }
+    requires { ⌜ (category ≤ categories) × (month ≤ months) ⌝ }
+    ensures { λ r. ⌜ r ≡ headAt (now (book .entry)) category month ⌝ }
+{
+    months::amount(herd::head(book, category, month))
+}
+
+// When a line was drained, month by month of the year.
+fn drains(book: &[u8], year: usize, line: usize) -> [bool; MONTHS_IN_YEAR]
+    requires { ⌜ Valid (now book) ⌝ }
+    requires { ⌜ InPeriod year ⌝ }
+    requires { ⌜ line ≤ lines ⌝ }
+    ensures { λ r. ⌜ Holds Bool false (monthsBefore year) monthsInYear (drainedOf (now (book .entry)) line) r ⌝ }
+{
+    let before = months::months_before(year);
+    let mut drains = [false; MONTHS_IN_YEAR];
+    for passed in 0..MONTHS_IN_YEAR {
+        drains[passed] = herd::drained(book, line, before + passed + 1);
+    }
+    drains
+}
+
+// The sum of the year's twelve heads.
+fn heads(book: &[u8], year: usize, category: usize) -> u64
+    requires { ⌜ Valid (now book) ⌝ }
+    requires { ⌜ InPeriod year ⌝ }
+    requires { ⌜ category ≤ categories ⌝ }
+    ensures { λ r. ⌜ r ≡ headsOf (now (book .entry)) year category ⌝ }
+{
+    let before = months::months_before(year);
+    let mut heads = 0;
+    for month in 1..=MONTHS_IN_YEAR {
+        heads += head(book, category, before + month);
+    }
+    heads
+}
+
+// Another line, by the sum of its heads: each division rounds down.
+fn other(book: &[u8], year: usize, line: usize, numbers: Line) -> Sums
+    requires { ⌜ Valid (now book) ⌝ }
+    requires { ⌜ InPeriod year ⌝ }
+    requires { ⌜ line ≤ lines ⌝ }
+    requires { ⌜ numbers ≡ lineOf (now book) line ⌝ }
+    ensures { λ r. ⌜ r ≡ otherOf (headsOf (now (book .entry)) year (numbers .category)) numbers ⌝ }
+{
+    let heads = heads(book, year, numbers.category as usize);
+    let daily = heads * numbers.solids * numbers.mass * numbers.share / DAILY_PARTS;
+    let yearly = Solids::of_grams(daily * DAYS_IN_YEAR);
+    let degraded = yearly.share(numbers.conversion, CONVERSION_PARTS);
+    Sums::baseline_alone(degraded.b0_rule(numbers.b0, units::POTENTIAL))
 }
