@@ -1,4 +1,4 @@
-// Equation 5.3, month by month: what becomes of the volatile solids in a line's lagoon.
+// Equation 5.3: what a month enters into a line's lagoon, and what becomes of it.
 ghost use mathlib.Core.Path.{_≡_};
 ghost use Prim.Native.Nat.{_≤_, _<_};
 ghost use Rattle.factor.specs.Rule.{million};
