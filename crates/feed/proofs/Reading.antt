@@ -11,11 +11,11 @@ use Rattle.book.specs.Valid.{Valid}
 use Rattle.book.specs.declared.Posted.{Posted}
 use Rattle.book.specs.declared.Posted.the-variants.{Taken, Refused}
 use Rattle.feed.specs.Blocks.{wholeBytes, wholeRecords, carried, blockBy, fedBy}
-use Rattle.feed.specs.Input.{bookOf, endingBy, endingOf, Comes, read}
+use Rattle.feed.specs.Input.{bookOf, endingBy, endingOf, Comes, unread, read}
 use Rattle.feed.specs.declared.Fed.{Fed}
 use Rattle.feed.specs.declared.Fed.the-variants.{Held, Refused as FedRefused}
 use Rattle.feed.specs.declared.Ending.{Ending}
-use Rattle.feed.specs.declared.Ending.the-variants.{Refused as EndingRefused}
+use Rattle.feed.specs.declared.Ending.the-variants.{Refused as EndingRefused, Failed}
 use Rattle.feed.proofs.Carrying.{held}
 use Rattle.feed.proofs.Posting.{kept-all, after, stays, many, parts}
 use Rattle.feed.proofs.Slots.{freeSlots, fills-all}
@@ -36,6 +36,11 @@ begin start block v = record { from = v; input = []; posted = []; is = refl; who
 
 pub valid : {start book block : List ℕ} {cut : ℕ} → Reading start book block cut → Valid book
 valid {start} w = rw (w .made) (kept-all start (recordsOf (w .posted)) (w .from))
+
+-- what is posted when a read fails
+pub unread-after : {start book block : List ℕ} {cut : ℕ} → Reading start book block cut → Comes start Failed book
+unfolding bookOf
+unread-after w = unread (w .posted) (w .made)
 
 -- how many bytes can still come
 unfoldable pub left : List ℕ → ℕ → ℕ

@@ -16,7 +16,7 @@ endingBy (RefusedRecord number place) = Refused number place
 unfoldable pub endingOf : List ℕ → List ℕ → Ending
 endingOf book input = endingBy (answerAll book (recordsOf input))
 
--- from a book, a read failed; or some input came, and the ending and the book afterwards are its own
+-- some input came, and then a read failed, or it ended so; and the book afterwards is what its records make of the one before
 pub data Comes (book : List ℕ) : Ending → List ℕ → Type 0 where
-  unread : {later : List ℕ} → Comes book Failed later
+  unread : (input : List ℕ) {later : List ℕ} → later ≡ bookOf book input → Comes book Failed later
   read : (input : List ℕ) {ending : Ending} {later : List ℕ} → ending ≡ endingOf book input → later ≡ bookOf book input → Comes book ending later

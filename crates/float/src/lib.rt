@@ -3,15 +3,15 @@ ghost use mathlib.Core.Path.{_≡_};
 ghost use Prim.Native.Nat.{_+_, _≤_};
 ghost use lib.ListN.{length};
 ghost use lib.Ieee.{binary32, ofBits};
-ghost use Rattle.keys.specs.Number.{numberAt};
+ghost use Rattle.float.specs.Float.{floatBytes, floatAt};
 
 // The bytes of a float.
 pub const FLOAT: usize = 4;
 
 // The float of the four bytes from `at` on.
 pub fn float_at(bytes: &[u8], at: usize) -> f32
-    requires { ⌜ at + 4 ≤ length (now bytes) ⌝ }
-    ensures { λ r. ⌜ r ≡ ofBits binary32 (numberAt (now (bytes .entry)) at 4) ⌝ }
+    requires { ⌜ at + floatBytes ≤ length (now bytes) ⌝ }
+    ensures { λ r. ⌜ r ≡ floatAt (now (bytes .entry)) at ⌝ }
 {
     of_bits(keys::number(bytes, at, FLOAT) as u32)
 }

@@ -4,15 +4,11 @@ use Prim.Native.Nat.{ℕ, zero, suc, _+_, _*_, _-_, _≤_, _<_}
 use mathlib.Core.Path.{_≡_, refl, ap, sym, _∙_}
 use mathlib.Core.List.{List}
 use native.Mathlib.Omega.{arith}
-use lib.Ieee.{Float, nan, binary32, ofBits}
+use lib.Ieee.{Float, nan}
 use lib.ListN.{length, getD, take, drop, length-drop}
 use lib.Seq.{ext-getD, getD-take, length-take-le, take-length}
-use Rattle.keys.specs.Number.{numberAt}
+use Rattle.float.specs.Float.{floatAt}
 use Rattle.format.specs.Format.{floatsAt}
-
--- the float of the four bytes from `at` on
-abbrev pub floatAt : List ℕ → ℕ → Float
-floatAt input at = ofBits binary32 (numberAt input at 4)
 
 pub floats-length : (input : List ℕ) (at n : ℕ) → length (floatsAt input at n) ≡ n
 unfolding floatsAt

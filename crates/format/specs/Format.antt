@@ -2,25 +2,23 @@
 -- lower first; then the flows and the contents, four bytes each, and the states, a byte each.
 use Prim.Native.{Nat.ℕ, Nat.zero, Nat.suc, Nat._+_, Nat._*_, Char.code}
 use mathlib.Core.{Bool.Bool, Bool.not, Bool._&&_, Bool.cond, List.List, List.[], List._∷_}
-use lib.{Dec.eqb, Dec.leb, Ieee.Float, Ieee.binary32, Ieee.ofBits, ListN.length, ListN.getD, ListN.drop}
+use lib.{Dec.eqb, Dec.leb, Ieee.Float, ListN.length, ListN.getD, ListN.drop}
 use Rattle.keys.specs.Number.{numberAt}
+use Rattle.float.specs.Float.{floatBytes, floatAt}
 use Rattle.meter.specs.{declared.MonthAnswer.MonthAnswer, declared.MonthAnswer.the-variants.Refused, Month.monthOf}
 
--- the bytes before the flows, and those of a float
+-- the bytes before the flows
 abbrev pub headerBytes : ℕ
 headerBytes = 10
-
-abbrev pub floatBytes : ℕ
-floatBytes = 4
 
 -- the input has a mark, and it is not CM
 abbrev pub isOtherMark : List ℕ → Bool
 isOtherMark input = leb 2 (length input) && not (eqb (getD input 0 0) (code "C") && eqb (getD input 1 0) (code "M"))
 
--- so many floats, from `at` on; every pattern that is no number gives the one float that is none
+-- so many floats, from `at` on
 unfoldable pub floatsAt : List ℕ → ℕ → ℕ → List Float
 floatsAt input at zero = []
-floatsAt input at (suc count) = ofBits binary32 (numberAt input at floatBytes) ∷ floatsAt input (at + floatBytes) count
+floatsAt input at (suc count) = floatAt input at ∷ floatsAt input (at + floatBytes) count
 
 -- the month of an input that has so many flows and contents, and states from there on
 unfoldable pub lentOf : List ℕ → ℕ → ℕ → MonthAnswer

@@ -3,7 +3,8 @@ ghost use mathlib.Core.Path.{_≡_};
 ghost use Prim.Native.Nat.{_+_, _*_, _≤_};
 ghost use lib.ListN.{length, take};
 ghost use Rattle.series.specs.Series.{mostHours};
-ghost use Rattle.format.specs.Format.{headerBytes, floatBytes, isOtherMark, floatsAt, lentOf, statedOf};
+ghost use Rattle.float.specs.Float.{floatBytes};
+ghost use Rattle.format.specs.Format.{headerBytes, isOtherMark, floatsAt, lentOf, statedOf};
 use float::FLOAT;
 use meter::MonthAnswer;
 

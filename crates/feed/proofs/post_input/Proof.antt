@@ -7,10 +7,9 @@ use borrow.Author.Needs.{needs}
 use lib.ListN.{length}
 use lib.Seq.{length-take-le}
 use Rattle.input.proofs.Within.{given}
-use Rattle.feed.specs.Input.{unread}
 use Rattle.feed.specs.declared.Fed.the-variants.{Held}
 use Rattle.feed.proofs.Posting.{kept-all}
-use Rattle.feed.proofs.Reading.{Reading, begin, valid, left, ended, onwards, stopped}
+use Rattle.feed.proofs.Reading.{Reading, begin, valid, left, unread-after, ended, onwards, stopped}
 use Rattle.feed.proofs.post_input.Statement.{statement}
 use Rattle.feed.proofs.post_input.Tie as tie
 
@@ -39,7 +38,7 @@ same-length-2 : tie.Need-same-length-2 Inv-loop μ-loop
 same-length-2 c = c .before .before .before .before .read-more .kept .0 ∙ c .before .before .before .before .before .before .loop .inv .2
 
 returns : tie.Need-returns Inv-loop μ-loop
-returns c = (unread, valid (c .before .before .before .before .before .before .loop .inv .0))
+returns c = let w = c .before .before .before .before .before .before .loop .inv .0 in (unread-after w, valid w)
 
 slice-reshare-prefix-post-last : tie.Need-slice-reshare-prefix-post-last Inv-loop μ-loop
 slice-reshare-prefix-post-last c =

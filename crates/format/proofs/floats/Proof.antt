@@ -9,7 +9,8 @@ use lib.Ieee.{nan}
 use lib.ListN.{length, getD, set, length-set}
 use lib.Seq.{getD-set-same, getD-set-other}
 use Rattle.series.specs.Series.{mostHours}
-use Rattle.format.proofs.EachFloat.{floatAt, floats-first}
+use Rattle.float.specs.Float.{floatAt}
+use Rattle.format.proofs.EachFloat.{floats-first}
 use Rattle.format.proofs.floats.Statement.{statement}
 use Rattle.format.proofs.floats.Tie as tie
 
