@@ -1,5 +1,6 @@
 pub mod Again
 pub mod Keys
+pub mod Log
 pub mod Made
 pub mod Own
 pub mod Read
