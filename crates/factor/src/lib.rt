@@ -12,7 +12,7 @@ const COLD_FACTOR: u64 = 104_000;
 // The first temperature past the table.
 const HOT_END: i16 = 302;
 
-// Factors count millionths, and from that temperature on all of them.
+// Factors count millionths. From HOT_END on a month degrades all of them.
 pub const MILLION: u64 = 1_000_000;
 
 // The factor at a temperature in tenths of a degree.
@@ -28,10 +28,10 @@ pub fn factor(tenths: i16) -> u64
     MILLION
 }
 
-// The temperature of the table's first entry, as its index is worked out.
+// The temperature of the table's first entry.
 const FIRST_ENTRY: usize = COLD_END as usize;
 
-// Alone in naming the table, which is built in the frame of each function that names it.
+// The only function that names the table: a constant array is built in the frame of each function that names it.
 fn entry(tenths: usize) -> u64
     requires { ⌜ (coldEnd ≤ tenths) × (tenths < hotEnd) ⌝ }
     ensures { λ r. ⌜ r ≡ ruledOf tenths ⌝ }

@@ -12,7 +12,7 @@ inRange (from low high) r x = leb low x && leb x high
 inRange (unless by high) r x = leb 0 x && leb x (cond (eqb (getD r by 0) 0) 0 high)
 inRange (signed below above) r x = leZ (negℤ (pos below)) (signedOf x) && leZ (signedOf x) (pos above)
 
--- the offset of the first of n bytes that is not 0, or a later one
+-- the offset of the first of the n bytes from `at` on that is not 0; `later` where all are 0
 unfoldable pub nonzeroAt : List ℕ → ℕ → ℕ → ℕ → ℕ
 nonzeroAt r at zero later = later
 nonzeroAt r at (suc n) later = cond (eqb (getD r at 0) 0) (nonzeroAt r (at + 1) n later) at

@@ -14,7 +14,7 @@ pub struct Field(pub usize, pub usize, pub u64, pub u64);
 // Bytes that must be 0: the offset of the first, and how many.
 pub struct Zeros(pub usize, pub usize);
 
-// The offset of the first of some zero bytes that is not 0, or a later one.
+// The offset of the first of some zero bytes that is not 0; `later` where all are 0.
 pub fn nonzero(posted: &[u8], zeros: Zeros, later: usize) -> usize
     requires { ⌜ zeros .0 + zeros .1 ≤ length (now posted) ⌝ }
     ensures { λ r. ⌜ r ≡ nonzeroAt (now (posted .entry)) (zeros .0) (zeros .1) later ⌝ }
@@ -31,7 +31,7 @@ pub fn nonzero(posted: &[u8], zeros: Zeros, later: usize) -> usize
     later
 }
 
-// The offset of a field that is outside its range, or a later one.
+// The offset of a field that is outside its range; `later` where it is inside.
 pub fn outside(posted: &[u8], field: Field, later: usize) -> usize
     requires { ⌜ (field .0 + field .1 ≤ length (now posted)) × (field .1 ≤ 8) ⌝ }
     ensures { λ r. ⌜ r ≡ cond (inRange (from (field .2) (field .3)) (now (posted .entry)) (numberAt (now (posted .entry)) (field .0) (field .1))) later (field .0) ⌝ }

@@ -22,7 +22,7 @@ const WITHOUT_SIGN: u32 = 0x7fff_ffff;
 // Infinity's pattern; above it stand those that are no number.
 const INFINITE: u32 = 0x7f80_0000;
 
-// The float of a pattern. `f32::from_bits` says nothing of the patterns that are no number; 0.0 / 0.0 is none either.
+// The float of a pattern. The contract of `f32::from_bits` does not speak of the patterns that are not numbers; 0.0 / 0.0 is not a number either.
 fn of_bits(bits: u32) -> f32
     ensures { λ r. ⌜ r ≡ ofBits binary32 bits ⌝ }
 {

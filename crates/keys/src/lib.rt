@@ -117,7 +117,7 @@ pub fn meter_slot(month: usize, device: usize) -> usize
     FIRST_MT + earlier(month) * DEVICES + earlier(device)
 }
 
-// How many numbers from 1 on come before one.
+// A key byte counts from 1: how many come before it. A byte of 0 has none before it either.
 fn earlier(number: usize) -> usize
     ensures { λ r. ⌜ r ≡ number - 1 ⌝ }
 {

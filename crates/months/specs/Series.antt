@@ -1,4 +1,4 @@
--- What counts of a slot, the years of the crediting period, and what a book says of a month (01, "The records", "The lagoon month"). Months count from 1.
+-- The amount in a slot, the years of the crediting period, and what a book says of a month (01, "The records", "The lagoon month"). Months count from 1.
 use Prim.Native.Nat.{ℕ, _*_, _-_}
 use mathlib.Core.{Bool.Bool, Bool.true, Bool.false, List.List}
 use Rattle.calendar.specs.Days.{monthsInYear, daysOf}
@@ -12,7 +12,8 @@ abbrev pub filled : Seen → Bool
 filled Nothing = false
 filled (Value amount) = true
 
--- what counts of a slot: 0 where it was never filled (01, "Refusal numbers", of a device without MT; no other is lacking when it counts)
+-- the amount in a slot, 0 where it was never filled: 01 says so of a device without MT ("Refusal numbers"), and no other record is lacking where its
+-- amount is used
 abbrev pub amountOf : Seen → ℕ
 amountOf Nothing = 0
 amountOf (Value amount) = amount

@@ -1,4 +1,4 @@
-// What counts of a slot, and what a book says of a year's months.
+// The amount in a slot, and what a book says of a year's months.
 ghost use mathlib.Core.Path.{_≡_};
 ghost use Prim.Native.Nat.{ℕ, _+_, _≤_};
 ghost use Rattle.calendar.specs.Days.{monthsInYear, daysOf};
@@ -22,7 +22,7 @@ pub fn is_filled(seen: Seen) -> bool
     }
 }
 
-// What counts of a slot: 0 where it was never filled.
+// The amount in a slot: 0 where it was never filled.
 pub fn amount(seen: Seen) -> u64
     ensures { λ r. ⌜ r ≡ amountOf seen ⌝ }
 {
@@ -32,7 +32,7 @@ pub fn amount(seen: Seen) -> u64
     }
 }
 
-// How many months of the book come before a year's first.
+// The number of months before a year.
 pub fn months_before(year: usize) -> usize
     requires { ⌜ InPeriod year ⌝ }
     ensures { λ r. ⌜ r ≡ monthsBefore year ⌝ }
@@ -40,7 +40,7 @@ pub fn months_before(year: usize) -> usize
     MONTHS_IN_YEAR * (year - 1)
 }
 
-// How many there are through the year's last.
+// The number of months to the end of a year.
 pub fn months_through(year: usize) -> usize
     requires { ⌜ InPeriod year ⌝ }
     ensures { λ r. ⌜ r ≡ monthsThrough year ⌝ }

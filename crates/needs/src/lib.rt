@@ -28,7 +28,7 @@ impl Completeness {
     }
 }
 
-// Room for a flag of each category, by its number; 0 is the number where there is no line.
+// Room for a flag at each category number. A line that is not in the book has number 0.
 const CATEGORY_FLAGS: usize = keys::CATEGORIES + 1;
 
 // Whether a year has the records that it needs. YR and a line are looked at first, and then each month

@@ -41,7 +41,7 @@ pub fn lay_signed(page: &mut [u8], at: usize, number: i64) -> usize
     lay_decimal(page, at, size(number))
 }
 
-// A number without its sign. The lowest has no counterpart above 0, so one is added before the sign is turned, and again after.
+// A number without its sign. The lowest i64 has no counterpart above 0: so 1 is added before the sign is changed, and again after.
 fn size(number: i64) -> u64
     ensures { λ r. ⌜ r ≡ natAbs number ⌝ }
 {

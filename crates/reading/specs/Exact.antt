@@ -5,7 +5,7 @@ use mathlib.Core.Bool.{Bool, true, false, cond}
 use lib.{Dec.leb, Dec.eqb, Ieee.Float, Ieee.nan, Ieee.inf, Ieee.fin, Ieee.up, Ieee.down}
 use Rattle.reading.specs.declared.Measure.{Measure, the-variants.Whole, the-variants.TurnedDown}
 
--- so many times the float's exact value, rounded down
+-- `factor` times the float's exact value, rounded down
 unfoldable pub timesDown : ℕ → Float → ℕ
 timesDown factor nan = 0
 timesDown factor (inf s) = 0

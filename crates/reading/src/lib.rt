@@ -5,7 +5,7 @@ ghost use Prim.Native.Nat.{_≤_, _<_, _^_};
 ghost use lib.Dec.{T};
 ghost use Rattle.reading.specs.Exact.{timesDown, isUpTo, scaledOf, litresOf, hundredthsOf};
 
-// A float as a whole number, or turned down: not a number, infinite, below zero or too large.
+// A float as a whole number; or turned down, since it is not a number, infinite, below zero or too large.
 pub enum Measure {
     Whole(u64),
     TurnedDown,

@@ -65,7 +65,7 @@ pub fn run(from: Standing, entered: &[u64], factors: &[u64], drained: &[bool]) -
     totals
 }
 
-// The figures of the month that comes after so many.
+// The figures of the month that follows the first `passed` months.
 fn month_after(entered: &[u64], factors: &[u64], drained: &[bool], passed: usize) -> Month
     requires { ⌜ (passed < length (now entered)) × (passed < length (now factors)) × (passed < length (now drained)) ⌝ }
     ensures { λ r. ⌜ r ≡ monthsOf (now (entered .entry)) (now (factors .entry)) (now (drained .entry)) (passed + 1) ⌝ }

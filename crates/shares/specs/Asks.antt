@@ -7,7 +7,7 @@ use Rattle.keys.specs.Table.{categories}
 use Rattle.herd.specs.Herd.{lineOf}
 use Rattle.shares.specs.Shares.{shareIn}
 
--- sums by the categories' numbers, of their shares in lines 1 to n
+-- for each category number, the sum of its shares in lines 1 to n
 pub record Shared (book : List ℕ) (n : ℕ) (sums : List ℕ) : Type 0 where
   pub long : length sums ≡ categories + 1
   pub each : (category : ℕ) → category ≤ categories → getD sums category 0 ≡ sum n (λ line. shareIn category (lineOf book line))

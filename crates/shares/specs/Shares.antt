@@ -10,7 +10,7 @@ use Rattle.herd.specs.{Herd.lineOf, declared.Line.Line}
 abbrev pub wholeShare : ℕ
 wholeShare = 10000
 
--- a line's share in a category; a line that there is not has category 0, which is none
+-- a line's share of a category; a line that is not in the book has category 0, which is no category
 abbrev pub shareIn : ℕ → Line → ℕ
 shareIn category line = cond (eqb (line .category) category) (line .share) 0
 

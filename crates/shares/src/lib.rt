@@ -8,7 +8,7 @@ ghost use Rattle.shares.specs.Asks.{Shared};
 // Shares count ten-thousandths.
 const WHOLE_SHARE: u64 = 10_000;
 
-// Room for a sum of each category, by its number; 0 is the number where there is no line.
+// Room for a sum at each category number. A line that is not in the book has number 0.
 const CATEGORY_SUMS: usize = keys::CATEGORIES + 1;
 
 // The lowest category whose shares sum above the whole, or the one past all categories.

@@ -7,7 +7,7 @@ use Rattle.keys.specs.{Table.Entry, Table.zeros, Table.field, Table.entriesOf, 
 use Rattle.book.specs.Book.{free}
 use Rattle.slots.specs.declared.Seen.{Seen, the-variants.Nothing, the-variants.Value}
 
--- the bytes of some entries; and the offset and the bytes of entry n of a row, counted from 0
+-- the width of some entries together, in bytes; and the offset and the width of entry n of a row, counted from 0
 abbrev pub bytesIn : List Entry → ℕ
 bytesIn [] = 0
 bytesIn (zeros n ∷ es) = n + bytesIn es

@@ -12,7 +12,7 @@ unfoldable pub answerLines : ℕ → Answer → List ℕ → List ℕ
 answerLines year (Stated figures) later = yearLines year figures ++ later
 answerLines year (Refused number place) later = refusalLine number place
 
--- so many years of a book, from one on
+-- n years of a book, from `year` on
 unfoldable pub yearsFrom : List ℕ → ℕ → ℕ → List ℕ
 yearsFrom book year zero = []
 yearsFrom book year (suc n) = answerLines year (answerOf book year) (yearsFrom book (year + 1) n)

@@ -12,11 +12,11 @@ methane grams = record { 0 = grams }
 abbrev pub co2e : ℕ → Co2e
 co2e grams = record { 0 = grams }
 
--- so many parts of a whole, rounded down
+-- parts / whole of some grams, rounded down
 abbrev pub shareOf : ℕ → ℕ → ℕ → ℕ
 shareOf grams parts whole = grams * parts / whole
 
--- what methane warms the air by, gram for gram, as against carbon dioxide (5.3, 5.10)
+-- methane's warming potential: how many times as much a gram of it warms the air as a gram of carbon dioxide (5.3, 5.10)
 abbrev pub potential : ℕ
 potential = 21
 

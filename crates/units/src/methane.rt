@@ -26,7 +26,7 @@ impl Methane {
         Methane(self.0 + other.0)
     }
 
-    // So many parts of a whole, rounded down.
+    // parts / whole of it, rounded down.
     pub fn share(self, parts: u64, whole: u64) -> Self
         requires { ⌜ (self .0 * parts < 2 ^ 64) × (0 < whole) ⌝ }
         ensures { λ r. ⌜ r ≡ methane (shareOf (self .0) parts whole) ⌝ }
@@ -34,7 +34,7 @@ impl Methane {
         Methane(self.0 * parts / whole)
     }
 
-    // The potential: what methane warms.
+    // As carbon dioxide equivalent, by the warming potential.
     pub fn warming(self, potential: u64) -> Co2e
         requires { ⌜ potential * self .0 < 2 ^ 64 ⌝ }
         ensures { λ r. ⌜ r ≡ warmingOf self potential ⌝ }

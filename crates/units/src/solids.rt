@@ -4,7 +4,7 @@ ghost use Rattle.units.specs.Grams.{solids, shareOf, b0RuleOf};
 use crate::Co2e;
 use crate::DENSITY;
 
-// Hundredths of B0 by hundredths of a kilogram.
+// B0 counts hundredths, and so does the density: a hundred times a hundred.
 const B0_RULE_PARTS: u64 = 10_000;
 
 // Grams of volatile solids.
@@ -37,7 +37,7 @@ impl Solids {
         Solids(self.0 - other.0)
     }
 
-    // So many parts of a whole, rounded down.
+    // parts / whole of it, rounded down.
     pub fn share(self, parts: u64, whole: u64) -> Self
         requires { ⌜ (self .0 * parts < 2 ^ 64) × (0 < whole) ⌝ }
         ensures { λ r. ⌜ r ≡ solids (shareOf (self .0) parts whole) ⌝ }
@@ -45,7 +45,7 @@ impl Solids {
         Solids(self.0 * parts / whole)
     }
 
-    // The B0 rule: what degraded solids warm, b0 in hundredths. Its one division rounds down, so that
+    // The B0 rule: degraded solids as carbon dioxide equivalent, b0 in hundredths. Its one division rounds down, so that
     // the methane between the two units is never rounded by itself. It asks b0 within 01's range and a
     // potential of at most 40, more than any edition's; the product then fits.
     pub fn b0_rule(self, b0: u64, potential: u64) -> Co2e
