@@ -15,11 +15,11 @@ or-known : (v f g : Value) → (isRecorded v ≡ false → f ≡ g) → orElse v
 or-known (Recorded x) f g known = refl
 or-known Missing f g known = known refl
 
-module _ (unit : ℕ) (s : ℕ → Value) (n h : ℕ) where
-  pub filled-here : (f : Value) → (isRecorded (s h) ≡ false → f ≡ fillFrom unit s n (startOf s h)) → h < n → orElse (s h) f ≡ filled unit s n h
+module _ (s : ℕ → Value) (n h : ℕ) where
+  pub filled-here : (f : Value) → (isRecorded (s h) ≡ false → f ≡ fillFrom s n (startOf s h)) → h < n → orElse (s h) f ≡ filled s n h
   unfolding filled
-  filled-here f known l = rw (lt-ltb h n l) (or-known (s h) f (fillFrom unit s n (startOf s h)) known)
+  filled-here f known l = rw (lt-ltb h n l) (or-known (s h) f (fillFrom s n (startOf s h)) known)
 
-  pub filled-past : n ≤ h → Missing ≡ filled unit s n h
+  pub filled-past : n ≤ h → Missing ≡ filled s n h
   unfolding filled
   filled-past l = rw (le-ltb h n l)

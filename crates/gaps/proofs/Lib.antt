@@ -3,3 +3,4 @@ pub mod Filled
 pub mod Maximal
 pub mod Sizes
 pub mod Stepping
+pub mod Within

@@ -1,13 +1,12 @@
--- No number that filling makes is larger than the largest that was recorded: an average in whole units is at most the largest of the eight.
+-- No number that filling makes is larger than the largest that was recorded: an average is at most the largest of the eight.
 -- Assumes nothing.
 use Prim.Native.Nat.{ℕ, zero, suc, _+_, _*_, _-_, _/_, _≤_}
-use mathlib.Core.Path.{_≡_, ap, _∙_}
 use mathlib.Core.Bool.{Bool, true, false, _&&_, cond}
-use native.Mathlib.Nat.{suc-mul, mul-assoc, mul-comm, div-mul-le-self, le-trans, le-of-eq}
+use native.Mathlib.Nat.{suc-mul}
 use native.Mathlib.Omega.{arith}
 use lib.Dec.{leb, ltb}
 use Rattle.series.specs.Series.{amount}
-use Rattle.gaps.specs.Filling.{startOf, endOf, plus, totalOf, neighbours, inUnits, averageOf, fillOf, orElse, filled}
+use Rattle.gaps.specs.Filling.{startOf, endOf, plus, totalOf, neighbours, meanOf, inMonth, averageOf, fillOf, fillFrom, orElse, filled}
 use Rattle.series.specs.declared.Value.{Value}
 use Rattle.series.specs.declared.Value.the-variants.{Recorded, Missing}
 
@@ -17,15 +16,10 @@ plus-most (Recorded x) (Recorded y) = omega arith
 plus-most (Recorded x) Missing = omega arith
 plus-most Missing w = omega arith
 
--- eight times what is left of t in whole units is at most t
-pub units-most : (t unit : ℕ) → t / (8 * unit) * unit * 8 ≤ t
-units-most t unit =
-    le-trans (le-of-eq (mul-assoc (t / (8 * unit)) unit 8 ∙ ap (λ (k : ℕ). t / (8 * unit) * k) (mul-comm unit 8))) (div-mul-le-self t (8 * unit))
-
-in-units-most : (unit : ℕ) (v : Value) (m : ℕ) → amount v ≤ 8 * m → amount (inUnits unit v) ≤ m
+mean-most : (v : Value) (m : ℕ) → amount v ≤ 8 * m → amount (meanOf v) ≤ m
 unfolding amount
-in-units-most unit (Recorded t) m h = omega (arith, units-most t unit)
-in-units-most unit Missing m h = omega arith
+mean-most (Recorded t) m h = omega arith
+mean-most Missing m h = omega arith
 
 picked-most : (b : Bool) (v : Value) (m : ℕ) → amount v ≤ m → amount (cond b v Missing) ≤ m
 unfolding amount
@@ -47,21 +41,21 @@ module _ (s : ℕ → Value) (m : ℕ) (small : (h : ℕ) → amount (s h) ≤ m
   total-most a (suc k) =
       omega (arith, suc-mul k m, plus-most (totalOf s a k) (s (a + k)), total-most a k, small (a + k))
 
-  average-most : (unit a b : ℕ) → amount (averageOf unit s a b) ≤ m
+  average-most : (n a b : ℕ) → amount (averageOf s n a b) ≤ m
   unfolding averageOf
-  average-most unit a b =
+  average-most n a b =
       let before = totalOf s (a - neighbours) neighbours in
       let after = totalOf s b neighbours in
-      picked-most (leb neighbours a) (inUnits unit (plus before after)) m
-      (in-units-most unit (plus before after) m
+      picked-most (inMonth n a b) (meanOf (plus before after)) m
+      (mean-most (plus before after) m
       (omega (arith, plus-most before after, total-most (a - neighbours) neighbours, total-most b neighbours)))
 
-  pub fill-most : (unit a b : ℕ) → amount (fillOf unit s a b) ≤ m
+  pub fill-most : (n a b : ℕ) → amount (fillOf s n a b) ≤ m
   unfolding fillOf
-  fill-most unit a b = picked-most (leb 1 (b - a) && leb (b - a) 5) (averageOf unit s a b) m (average-most unit a b)
+  fill-most n a b = picked-most (leb 1 (b - a) && leb (b - a) 5) (averageOf s n a b) m (average-most n a b)
 
-  pub filled-most : (unit n h : ℕ) → amount (filled unit s n h) ≤ m
+  pub filled-most : (n h : ℕ) → amount (filled s n h) ≤ m
   unfolding filled
-  filled-most unit n h =
-      picked-most (ltb h n) (orElse (s h) (fillOf unit s (startOf s h) (endOf s n (startOf s h)))) m
-      (or-most (s h) (fillOf unit s (startOf s h) (endOf s n (startOf s h))) m (small h) (fill-most unit (startOf s h) (endOf s n (startOf s h))))
+  filled-most n h =
+      picked-most (ltb h n) (orElse (s h) (fillFrom s n (startOf s h))) m
+      (or-most (s h) (fillFrom s n (startOf s h)) m (small h) (fill-most n (startOf s h) (endOf s n (startOf s h))))

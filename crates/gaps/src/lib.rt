@@ -7,7 +7,7 @@ ghost use lib.Dec.{eqb};
 ghost use Prim.Native.Nat.{ℕ, _*_, _≤_, _<_};
 ghost use lib.ListN.{length};
 ghost use Rattle.series.specs.Series.{isRecorded, series, amount, mostAmount, mostHours, Small};
-ghost use Rattle.gaps.specs.Filling.{neighbours, plus, totalOf, inUnits, endOf, averageOf, fillOf, fillFrom, orElse, startOf, filled, IsUnit};
+ghost use Rattle.gaps.specs.Filling.{neighbours, plus, totalOf, meanOf, endOf, averageOf, fillOf, fillFrom, orElse, startOf, filled};
 use series::MOST_HOURS;
 use series::Value;
 
@@ -20,19 +20,18 @@ const NEIGHBOURS: usize = 4;
 // The hours of an average, of both sides.
 const AVERAGED: u64 = 8;
 
-// The series after filling. Averages are in whole units, each so many of the series' own numbers.
-pub fn fill(hours: &[u64], unit: u64) -> [u64; MOST_HOURS]
+// The series after filling.
+pub fn fill(hours: &[u64]) -> [u64; MOST_HOURS]
     requires { ⌜ length (now hours) ≤ mostHours ⌝ }
     requires { ⌜ Small (now hours) ⌝ }
-    requires { ⌜ IsUnit unit ⌝ }
     ensures { λ r. ⌜ length r ≡ mostHours ⌝ }
-    ensures { λ r. ⌜ ((h : ℕ) → series r h ≡ filled unit (series (now (hours .entry))) (length (now (hours .entry))) h) ⌝ }
+    ensures { λ r. ⌜ ((h : ℕ) → series r h ≡ filled (series (now (hours .entry))) (length (now (hours .entry))) h) ⌝ }
 {
     let mut out = [0u64; MOST_HOURS];
     let mut filling = Value::Missing;
     for hour in 0..hours.len() {
         let value = series::at(hours, hour);
-        filling = filling_at(hours, unit, hour, value, filling);
+        filling = filling_at(hours, hour, value, filling);
         out[hour] = series::slot(or_else(value, filling));
     }
     out
@@ -48,13 +47,12 @@ fn or_else(value: Value, filling: Value) -> Value
 }
 
 // What fills the run that a missing hour stands in: it is worked out at the run's first hour, and kept for the others.
-fn filling_at(hours: &[u64], unit: u64, hour: usize, value: Value, filling: Value) -> Value
+fn filling_at(hours: &[u64], hour: usize, value: Value, filling: Value) -> Value
     requires { ⌜ (hour < length (now hours)) × (length (now hours) ≤ mostHours) ⌝ }
     requires { ⌜ Small (now hours) ⌝ }
-    requires { ⌜ IsUnit unit ⌝ }
     requires { ⌜ value ≡ series (now hours) hour ⌝ }
-    requires { ⌜ (startOf (series (now hours)) hour < hour → filling ≡ fillFrom unit (series (now hours)) (length (now hours)) (startOf (series (now hours)) hour)) ⌝ }
-    ensures { λ r. ⌜ (isRecorded value ≡ false → r ≡ fillFrom unit (series (now (hours .entry))) (length (now (hours .entry))) (startOf (series (now (hours .entry))) hour)) ⌝ }
+    requires { ⌜ (startOf (series (now hours)) hour < hour → filling ≡ fillFrom (series (now hours)) (length (now hours)) (startOf (series (now hours)) hour)) ⌝ }
+    ensures { λ r. ⌜ (isRecorded value ≡ false → r ≡ fillFrom (series (now (hours .entry))) (length (now (hours .entry))) (startOf (series (now (hours .entry))) hour)) ⌝ }
 {
     if series::is_recorded(value) {
         return filling;
@@ -62,7 +60,7 @@ fn filling_at(hours: &[u64], unit: u64, hour: usize, value: Value, filling: Valu
     if !is_start(hours, hour) {
         return filling;
     }
-    fill_from(hours, unit, hour)
+    fill_from(hours, hour)
 }
 
 // Whether the run that an hour stands in starts there: the hour before it is recorded, or there is none.
@@ -76,13 +74,12 @@ fn is_start(hours: &[u64], hour: usize) -> bool
 }
 
 // What fills the run that starts at an hour; nothing where that hour is recorded.
-fn fill_from(hours: &[u64], unit: u64, start: usize) -> Value
+fn fill_from(hours: &[u64], start: usize) -> Value
     requires { ⌜ (start ≤ length (now hours)) × (length (now hours) ≤ mostHours) ⌝ }
     requires { ⌜ Small (now hours) ⌝ }
-    requires { ⌜ IsUnit unit ⌝ }
-    ensures { λ r. ⌜ r ≡ fillFrom unit (series (now (hours .entry))) (length (now (hours .entry))) start ⌝ }
+    ensures { λ r. ⌜ r ≡ fillFrom (series (now (hours .entry))) (length (now (hours .entry))) start ⌝ }
 {
-    fill_of(hours, unit, start, end_from(hours, start))
+    fill_of(hours, start, end_from(hours, start))
 }
 
 // The first recorded hour from `start` on, or the month's end.
@@ -101,11 +98,10 @@ fn end_from(hours: &[u64], start: usize) -> usize
 }
 
 // What fills the run from `start` up to `end`.
-fn fill_of(hours: &[u64], unit: u64, start: usize, end: usize) -> Value
+fn fill_of(hours: &[u64], start: usize, end: usize) -> Value
     requires { ⌜ (start ≤ end) × (end ≤ mostHours) ⌝ }
     requires { ⌜ Small (now hours) ⌝ }
-    requires { ⌜ IsUnit unit ⌝ }
-    ensures { λ r. ⌜ r ≡ fillOf unit (series (now (hours .entry))) start end ⌝ }
+    ensures { λ r. ⌜ r ≡ fillOf (series (now (hours .entry))) (length (now (hours .entry))) start end ⌝ }
 {
     let length = end - start;
     if length < 1 {
@@ -114,22 +110,24 @@ fn fill_of(hours: &[u64], unit: u64, start: usize, end: usize) -> Value
     if LONGEST < length {
         return Value::Missing;
     }
-    average(hours, unit, start, end)
+    average(hours, start, end)
 }
 
-// The average of the neighbours of a run, where each is recorded.
-fn average(hours: &[u64], unit: u64, start: usize, end: usize) -> Value
+// The average of the neighbours of a run, where each is an hour of the month and recorded.
+fn average(hours: &[u64], start: usize, end: usize) -> Value
     requires { ⌜ (start ≤ mostHours) × (end ≤ mostHours) ⌝ }
     requires { ⌜ Small (now hours) ⌝ }
-    requires { ⌜ IsUnit unit ⌝ }
-    ensures { λ r. ⌜ r ≡ averageOf unit (series (now (hours .entry))) start end ⌝ }
+    ensures { λ r. ⌜ r ≡ averageOf (series (now (hours .entry))) (length (now (hours .entry))) start end ⌝ }
 {
     if start < NEIGHBOURS {
         return Value::Missing;
     }
+    if hours.len() < end + NEIGHBOURS {
+        return Value::Missing;
+    }
     let before = total(hours, start - NEIGHBOURS);
     let after = total(hours, end);
-    in_units(sum(before, after), unit)
+    mean(sum(before, after))
 }
 
 // The sum of as many hours as there are neighbours on a side, where each is recorded.
@@ -158,13 +156,12 @@ fn sum(a: Value, b: Value) -> Value
     }
 }
 
-// The average that a sum of all neighbours gives, in whole units, rounded down.
-fn in_units(total: Value, unit: u64) -> Value
-    requires { ⌜ IsUnit unit ⌝ }
-    ensures { λ r. ⌜ r ≡ inUnits unit total ⌝ }
+// The average of all neighbours, by their sum, rounded down.
+fn mean(total: Value) -> Value
+    ensures { λ r. ⌜ r ≡ meanOf total ⌝ }
 {
     match total {
-        Value::Recorded(n) => Value::Recorded(n / (AVERAGED * unit) * unit),
+        Value::Recorded(n) => Value::Recorded(n / AVERAGED),
         Value::Missing => Value::Missing,
     }
 }

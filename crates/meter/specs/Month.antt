@@ -16,9 +16,9 @@ unfoldable pub gramsOf : Kind → ℕ → (ℕ → ℕ) → (ℕ → Value) → 
 gramsOf kind efficiency state f c flow content n =
     sum n (λ k. let h = k - 1 in hourOf kind efficiency (state h) (f h) (c h) (flow h) (content h))
 
--- gaps are filled with averages in whole litres and whole hundredths, the series' own numbers
+-- gaps are filled with averages in whole litres and whole hundredths, which the two series count in
 unfoldable pub destroyedOf : Kind → ℕ → (ℕ → ℕ) → (ℕ → Value) → (ℕ → Value) → ℕ → ℕ
-destroyedOf kind efficiency state f c n = gramsOf kind efficiency state f c (filled 1 f n) (filled 1 c n) n
+destroyedOf kind efficiency state f c n = gramsOf kind efficiency state f c (filled f n) (filled c n) n
 
 unfoldable pub meteredOf : List Float → List Float → List ℕ → ℕ → ℕ
 meteredOf flows contents states efficiency =

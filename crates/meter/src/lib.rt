@@ -103,9 +103,6 @@ fn record_hours(
     hour
 }
 
-// Averages are in whole litres and whole hundredths, as the series are.
-const UNIT: u64 = 1;
-
 // Grams destroyed in a month, by what each hour recorded: the gaps are filled, and the hours summed.
 fn destroyed(kind: Kind, efficiency: u32, states: &[u8], flows: &[u64], contents: &[u64]) -> Methane
     requires { ⌜ (length (now flows) ≡ length (now states)) × (length (now contents) ≡ length (now states)) × (length (now states) ≤ mostHours) × (efficiency ≤ wholeEfficiency) ⌝ }
@@ -113,8 +110,8 @@ fn destroyed(kind: Kind, efficiency: u32, states: &[u8], flows: &[u64], contents
     requires { ⌜ ((h : ℕ) → amount (series (now contents) h) ≤ mostContent) ⌝ }
     ensures { λ r. ⌜ r ≡ methane (destroyedOf kind efficiency (stateAt (now (states .entry))) (series (now (flows .entry))) (series (now (contents .entry))) (length (now (states .entry)))) ⌝ }
 {
-    let filled_flows = gaps::fill(flows, UNIT);
-    let filled_contents = gaps::fill(contents, UNIT);
+    let filled_flows = gaps::fill(flows);
+    let filled_contents = gaps::fill(contents);
     sum(
         kind,
         efficiency,

@@ -1,8 +1,9 @@
--- `gaps::average` meets its contract: it is worked out where there are hours enough before the run.
+-- `gaps::average` meets its contract: it is worked out where the month has hours enough before the run and after it.
 -- Assumes nothing.
 use mathlib.Core.Path.{_∙_}
-use Prim.Native.Nat.{_-_}
+use Prim.Native.Nat.{_+_, _-_}
 use borrow.Author.Tests.{lt-leb, le-leb}
+use lib.ListN.{length}
 use Rattle.series.specs.Series.{series, mostAmount}
 use Rattle.gaps.specs.Filling.{neighbours, averageOf}
 use Rattle.gaps.proofs.Sizes.{total-most}
@@ -14,6 +15,18 @@ returns : tie.Need-returns
 unfolding averageOf
 returns c = rw (lt-leb neighbours (c .before .before .args .start) (c .if1 .taken))
 
+add-if2 : tie.Need-add-if2
+add-if2 c = search needs
+
+returns-2 : tie.Need-returns-2
+unfolding averageOf
+returns-2 c =
+    let a = c .before .before .before .args in
+    rw (
+      le-leb neighbours (a .start) (c .before .if1 .left),
+      lt-leb (a .end + neighbours) (length (a .hours .now)) (c .if2 .taken),
+    )
+
 total-requires : tie.Need-total-requires
 total-requires c κs = search needs
 
@@ -22,23 +35,35 @@ total-requires-2 c κs = search needs
 
 sum-requires : tie.Need-sum-requires
 sum-requires c κs =
-    let s = c .before .before .before .before in
+    let s = c .before .before .before .before .before in
     let hours = series (s .args .hours .now) in (
-      rw (c .before .total .ensures) (total-most hours mostAmount (s .pre .1 .0) (s .args .start - neighbours) neighbours),
-      rw (c .total2 .ensures) (total-most hours mostAmount (s .pre .1 .0) (s .args .end) neighbours),
+      rw (c .before .total .ensures) (total-most hours mostAmount (s .pre .1) (s .args .start - neighbours) neighbours),
+      rw (c .total2 .ensures) (total-most hours mostAmount (s .pre .1) (s .args .end) neighbours),
     )
 
-in-units-requires : tie.Need-in-units-requires
-in-units-requires c κs = search needs
+mean-requires : tie.Need-mean-requires
+mean-requires c κs = search needs
 
-returns-2 : tie.Need-returns-2
+returns-3 : tie.Need-returns-3
 unfolding averageOf
-returns-2 c =
-    let s = c .before .before .before .before .before .before in
-    rw (le-leb neighbours (s .args .start) (c .before .before .before .before .if1 .left))
-    (c .in-units .ensures ∙ rw (c .before .sum .ensures, c .before .before .before .total .ensures, c .before .before .total2 .ensures))
+returns-3 c =
+    let t = c .before .before .before .before in
+    let a = t .before .before .before .args in
+    rw (
+      le-leb neighbours (a .start) (t .before .if1 .left),
+      le-leb (a .end + neighbours) (length (a .hours .now)) (t .if2 .left),
+    )
+    (c .mean .ensures ∙ rw (c .before .sum .ensures, c .before .before .before .total .ensures, c .before .before .total2 .ensures))
 
 pub average-spec : {M : Type 1} → statement M
 average-spec =
     tie.close
-    (tie.spec returns total-requires total-requires-2 sum-requires in-units-requires returns-2)
+    (tie.spec
+    returns
+    add-if2
+    returns-2
+    total-requires
+    total-requires-2
+    sum-requires
+    mean-requires
+    returns-3)

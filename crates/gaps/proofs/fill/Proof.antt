@@ -19,10 +19,10 @@ use Rattle.gaps.proofs.fill.Statement.{statement}
 use Rattle.gaps.proofs.fill.Tie as tie
 
 abbrev Inv-loop : tie.InvT-loop
-Inv-loop hours unit out₀ filling₀ hour₀ hour-end out filling hour = (hour ≤ hour-end) × (hour-end ≡ length hours) × (length out ≡ mostHours) × (startOf (series hours) hour < hour → filling ≡ fillFrom unit (series hours) (length hours) (startOf (series hours) hour)) × ((k : ℕ) → k < hour → series out k ≡ filled unit (series hours) (length hours) k) × ((k : ℕ) → hour ≤ k → series out k ≡ Missing)
+Inv-loop hours out₀ filling₀ hour₀ hour-end out filling hour = (hour ≤ hour-end) × (hour-end ≡ length hours) × (length out ≡ mostHours) × (startOf (series hours) hour < hour → filling ≡ fillFrom (series hours) (length hours) (startOf (series hours) hour)) × ((k : ℕ) → k < hour → series out k ≡ filled (series hours) (length hours) k) × ((k : ℕ) → hour ≤ k → series out k ≡ Missing)
 
 abbrev μ-loop : tie.MeasureT-loop
-μ-loop hours unit out₀ filling₀ hour₀ hour-end out filling hour = hour-end - hour
+μ-loop hours out₀ filling₀ hour₀ hour-end out filling hour = hour-end - hour
 
 loop-holds : tie.Need-loop-holds Inv-loop μ-loop
 loop-holds c = (search needs, refl, refl, (λ l. absurd (omega arith)), below-none _, λ k l. nothing mostHours k)
@@ -34,7 +34,7 @@ filling-at-requires : tie.Need-filling-at-requires Inv-loop μ-loop
 filling-at-requires c κs =
     let l = c .before .before in
     let s = l .before .before in
-    ((omega arith, s .pre .0), (s .pre .1 .0, (s .pre .1 .1, (c .at .ensures, l .loop .inv .3))))
+    ((omega arith, s .pre .0), (s .pre .1, (c .at .ensures, l .loop .inv .3)))
 
 or-else-requires : tie.Need-or-else-requires Inv-loop μ-loop
 or-else-requires c κs = search needs
@@ -47,8 +47,8 @@ slot-requires c κs =
     let n = length (s .args .hours .now) in
     let f = c .before .filling-at in
     let at = c .before .before .at .ensures in
-    rw (c .or-else .ensures, at, filled-here (s .args .unit) hours n (l .loop .hour) (f .result) (λ e. f .ensures (ap isRecorded at ∙ e)) (omega arith))
-    (filled-most hours mostAmount (s .pre .1 .0) (s .args .unit) n (l .loop .hour))
+    rw (c .or-else .ensures, at, filled-here hours n (l .loop .hour) (f .result) (λ e. f .ensures (ap isRecorded at ∙ e)) (omega arith))
+    (filled-most hours mostAmount (s .pre .1) n (l .loop .hour))
 
 mul-out : tie.Need-mul-out Inv-loop μ-loop
 mul-out c = search needs
@@ -72,14 +72,14 @@ loop-again c =
     let v = c .before .or-else .result in
     let f = c .before .before .filling-at in
     let at = c .before .before .before .at .ensures in
-    let known : isRecorded (hours hour) ≡ false → f .result ≡ fillFrom (s .args .unit) hours n (startOf hours hour) = λ e. f .ensures (ap isRecorded at ∙ e) in
-    let here : v ≡ filled (s .args .unit) hours n hour =
-    c .before .or-else .ensures ∙ ap (λ (w : Value). orElse w (f .result)) at ∙ filled-here (s .args .unit) hours n hour (f .result) known (omega arith) in (
+    let known : isRecorded (hours hour) ≡ false → f .result ≡ fillFrom hours n (startOf hours hour) = λ e. f .ensures (ap isRecorded at ∙ e) in
+    let here : v ≡ filled hours n hour =
+    c .before .or-else .ensures ∙ ap (λ (w : Value). orElse w (f .result)) at ∙ filled-here hours n hour (f .result) known (omega arith) in (
       omega arith,
       refl,
       simp length-set (omega arith),
-      start-kept hours hour (λ (a : ℕ). f .result ≡ fillFrom (s .args .unit) hours n a) known,
-      stored (l .loop .out) hour (c .slot .result) (filled (s .args .unit) hours n) (omega arith) (l .loop .inv .4) (c .slot .ensures ∙ here),
+      start-kept hours hour (λ (a : ℕ). f .result ≡ fillFrom hours n a) known,
+      stored (l .loop .out) hour (c .slot .result) (filled hours n) (omega arith) (l .loop .inv .4) (c .slot .ensures ∙ here),
       later (l .loop .out) hour (c .slot .result) (l .loop .inv .5),
     )
 
@@ -91,8 +91,8 @@ returns c =
     let n = length (s .args .hours .now) in
     let done : l .loop .hour ≡ n = omega arith in (
       l .loop .inv .2,
-      agree (series (l .loop .out)) (filled (s .args .unit) hours n) (l .loop .hour) (l .loop .inv .4) (l .loop .inv .5)
-          (λ k b. filled-past (s .args .unit) hours n k (omega arith)),
+      agree (series (l .loop .out)) (filled hours n) (l .loop .hour) (l .loop .inv .4) (l .loop .inv .5)
+          (λ k b. filled-past hours n k (omega arith)),
     )
 
 pub fill-spec : {M : Type 1} → statement M

@@ -23,7 +23,7 @@ fill-of-requires c κs =
 returns : tie.Need-returns
 returns c =
     let s = c .before .before .before in
-    c .fill-of .ensures ∙ ap (fillOf (s .args .unit) (series (s .args .hours .now)) (s .args .start)) (c .before .end-from .ensures)
+    c .fill-of .ensures ∙ ap (fillOf (series (s .args .hours .now)) (length (s .args .hours .now)) (s .args .start)) (c .before .end-from .ensures)
 
 pub fill-from-spec : {M : Type 1} → statement M
 fill-from-spec = tie.close (tie.spec end-from-requires fill-of-requires returns)

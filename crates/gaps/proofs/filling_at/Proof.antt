@@ -23,7 +23,7 @@ is-start-requires c κs = search needs
 returns-2 : tie.Need-returns-2
 returns-2 c = λ e.
     let s = c .before .before .before .before .before in
-    s .pre .1 .1 .1 .1
+    s .pre .1 .1 .1
     (start-earlier (series (s .args .hours .now)) (s .args .hour) (sym (c .before .is-start .ensures) ∙ not-true _ (c .if2 .taken)))
 
 fill-from-requires : tie.Need-fill-from-requires
@@ -35,7 +35,7 @@ returns-3 c = λ e.
     let hours = a .hours .now in
     let here : startOf (series hours) (a .hour) ≡ a .hour =
     eqb-true (startOf (series hours) (a .hour)) (a .hour) (sym (c .before .before .is-start .ensures) ∙ not-false _ (c .before .if2 .left)) in
-    c .fill-from .ensures ∙ ap (fillFrom (a .unit) (series hours) (length hours)) (sym here)
+    c .fill-from .ensures ∙ ap (fillFrom (series hours) (length hours)) (sym here)
 
 pub filling-at-spec : {M : Type 1} → statement M
 filling-at-spec =
