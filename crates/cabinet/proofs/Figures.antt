@@ -8,9 +8,9 @@ use Rattle.cabinet.specs.Face.{yearOf}
 use Rattle.cabinet.specs.declared.CabinetYear.{CabinetYear}
 
 pub stated-is :
-    (figures : Figures) {entered degraded removed carried baseline project metered : ℕ} {net : ℤ} → entered ≡ figures .entered .0 →
+    (figures : Figures) {entered degraded removed carried baseline project-methane metered : ℕ} {net : ℤ} → entered ≡ figures .entered .0 →
     degraded ≡ figures .degraded .0 → removed ≡ figures .removed .0 → carried ≡ figures .carried .0 → baseline ≡ figures .baseline .0 →
-    project ≡ figures .project .0 → metered ≡ figures .metered .0 → net ≡ figures .net →
+    project-methane ≡ figures .«project_methane» .0 → metered ≡ figures .metered .0 → net ≡ figures .net →
     _≡_ {A = CabinetYear} (record {
       number = 0;
       place = 0;
@@ -19,7 +19,7 @@ pub stated-is :
       removed = removed;
       carried = carried;
       baseline = baseline;
-      project = project;
+      «project_methane» = project-methane;
       metered = metered;
       net = net;
       credited = figures .credited;

@@ -34,7 +34,7 @@ yearBy number place figures =
       removed = figures .removed .0;
       carried = figures .carried .0;
       baseline = figures .baseline .0;
-      project = figures .project .0;
+      «project_methane» = figures .«project_methane» .0;
       metered = figures .metered .0;
       net = figures .net;
       credited = figures .credited;
@@ -42,7 +42,7 @@ yearBy number place figures =
 
 -- no figures: all are 0
 abbrev pub noFigures : Figures
-noFigures = record { entered = solids 0; degraded = solids 0; removed = solids 0; carried = solids 0; baseline = co2e 0; project = co2e 0; metered = co2e 0; net = pos 0; credited = 0 }
+noFigures = record { entered = solids 0; degraded = solids 0; removed = solids 0; carried = solids 0; baseline = co2e 0; «project_methane» = co2e 0; metered = co2e 0; net = pos 0; credited = 0 }
 
 abbrev pub yearOf : Answer → CabinetYear
 yearOf (Stated figures) = yearBy 0 0 figures

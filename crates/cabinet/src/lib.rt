@@ -34,7 +34,7 @@ pub struct CabinetYear {
     pub removed: u64,
     pub carried: u64,
     pub baseline: u64,
-    pub project: u64,
+    pub project_methane: u64,
     pub metered: u64,
     pub net: i64,
     pub credited: u64,
@@ -107,7 +107,7 @@ fn stated(figures: Figures) -> CabinetYear
     let removed = figures.removed;
     let carried = figures.carried;
     let baseline = figures.baseline;
-    let project = figures.project;
+    let project_methane = figures.project_methane;
     let metered = figures.metered;
     CabinetYear {
         number: NOT_REFUSED,
@@ -117,7 +117,7 @@ fn stated(figures: Figures) -> CabinetYear
         removed: removed.grams(),
         carried: carried.grams(),
         baseline: baseline.grams(),
-        project: project.grams(),
+        project_methane: project_methane.grams(),
         metered: metered.grams(),
         net: figures.net,
         credited: figures.credited,
@@ -135,7 +135,7 @@ fn refused(number: u8, place: u64) -> CabinetYear
         removed: 0,
         carried: 0,
         baseline: 0,
-        project: 0,
+        project_methane: 0,
         metered: 0,
         net: 0,
         credited: 0,

@@ -19,7 +19,7 @@ use Rattle.months.specs.Series.{amountOf, monthsBefore}
 use Rattle.credit.specs.Asks.{OperatorFits}
 use Rattle.credit.specs.Credit.{gramsOf, destroyedAt, operatorOf}
 use Rattle.credit.specs.declared.Operator.{Operator}
-use Rattle.credit.proofs.Ranges.{methane-most, baseline-most, project-most, destroyed-most}
+use Rattle.credit.proofs.Ranges.{project-methane-most, baseline-co2-most, project-co2-most, destroyed-most}
 
 abbrev pub kilogramsMost : ℕ
 kilogramsMost = 4294967295000
@@ -28,17 +28,17 @@ abbrev pub destroyedMost : ℕ
 destroyedMost = 4000000000000
 
 pub record OperatorMost (operator : Operator) : Type 0 where
-  pub methane : operator .methane .0 ≤ 12 * kilogramsMost
-  pub baseline : operator .baseline .0 ≤ 12 * kilogramsMost
-  pub project : operator .project .0 ≤ 12 * kilogramsMost
+  pub project-methane : operator .«project_methane» .0 ≤ 12 * kilogramsMost
+  pub baseline-co2 : operator .«baseline_co2» .0 ≤ 12 * kilogramsMost
+  pub project-co2 : operator .«project_co2» .0 ≤ 12 * kilogramsMost
   pub destroyed : operator .destroyed .0 ≤ 12 * destroyedMost
 
 pub operator-fits : (operator : Operator) → OperatorMost operator → OperatorFits operator
 operator-fits operator o =
     record {
-      methane = omega (arith, o .methane);
-      baseline = omega (arith, o .baseline);
-      project = omega (arith, o .project);
+      project-methane = omega (arith, o .project-methane);
+      baseline-co2 = omega (arith, o .baseline-co2);
+      project-co2 = omega (arith, o .project-co2);
       metered = omega (arith, o .destroyed);
     }
 
@@ -79,14 +79,14 @@ module _ (book : List ℕ) (v : Valid book) where
     within : (m : ℕ) → m ≤ monthsInYear → monthsBefore year + m ≤ months
     within m h = omega (arith, period .high)
 
-    pub methane-small : (m : ℕ) → m ≤ monthsInYear → amountOf (projectMethaneOf book (monthsBefore year + m)) < 2 ^ 32
-    methane-small m h = methane-most book v (monthsBefore year + m) (within m h)
+    pub project-methane-small : (m : ℕ) → m ≤ monthsInYear → amountOf (projectMethaneOf book (monthsBefore year + m)) < 2 ^ 32
+    project-methane-small m h = project-methane-most book v (monthsBefore year + m) (within m h)
 
-    pub baseline-small : (m : ℕ) → m ≤ monthsInYear → amountOf (baselineCo2Of book (monthsBefore year + m)) < 2 ^ 32
-    baseline-small m h = baseline-most book v (monthsBefore year + m) (within m h)
+    pub baseline-co2-small : (m : ℕ) → m ≤ monthsInYear → amountOf (baselineCo2Of book (monthsBefore year + m)) < 2 ^ 32
+    baseline-co2-small m h = baseline-co2-most book v (monthsBefore year + m) (within m h)
 
-    pub project-small : (m : ℕ) → m ≤ monthsInYear → amountOf (projectCo2Of book (monthsBefore year + m)) < 2 ^ 32
-    project-small m h = project-most book v (monthsBefore year + m) (within m h)
+    pub project-co2-small : (m : ℕ) → m ≤ monthsInYear → amountOf (projectCo2Of book (monthsBefore year + m)) < 2 ^ 32
+    project-co2-small m h = project-co2-most book v (monthsBefore year + m) (within m h)
 
     abbrev destroyed : ℕ → ℕ
     destroyed m = destroyedAt book (monthsBefore year + m) .0
@@ -118,8 +118,8 @@ module _ (book : List ℕ) (v : Valid book) where
     pub operator-most : OperatorMost (operatorOf book year)
     operator-most =
         record {
-          methane = sum-small (projectMethaneOf book) (monthsBefore year) monthsInYear (λ m low high. methane-small m high);
-          baseline = sum-small (baselineCo2Of book) (monthsBefore year) monthsInYear (λ m low high. baseline-small m high);
-          project = sum-small (projectCo2Of book) (monthsBefore year) monthsInYear (λ m low high. project-small m high);
+          project-methane = sum-small (projectMethaneOf book) (monthsBefore year) monthsInYear (λ m low high. project-methane-small m high);
+          baseline-co2 = sum-small (baselineCo2Of book) (monthsBefore year) monthsInYear (λ m low high. baseline-co2-small m high);
+          project-co2 = sum-small (projectCo2Of book) (monthsBefore year) monthsInYear (λ m low high. project-co2-small m high);
           destroyed = destroyed-small monthsInYear (omega arith);
         }

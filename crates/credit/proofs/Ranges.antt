@@ -12,14 +12,14 @@ use Rattle.months.specs.Series.{amountOf}
 use Rattle.months.proofs.Ranges.{amount-most}
 
 module _ (book : List ℕ) (v : Valid book) where
-  pub methane-most : (m : ℕ) → m ≤ months → amountOf (projectMethaneOf book m) < 2 ^ 32
-  methane-most m h = omega (arith, amount-most 0 4294967295 (projectMethaneOf book m) (project-in book v m h 2 (lit≤ tt) tt))
+  pub project-methane-most : (m : ℕ) → m ≤ months → amountOf (projectMethaneOf book m) < 2 ^ 32
+  project-methane-most m h = omega (arith, amount-most 0 4294967295 (projectMethaneOf book m) (project-in book v m h 2 (lit≤ tt) tt))
 
-  pub baseline-most : (m : ℕ) → m ≤ months → amountOf (baselineCo2Of book m) < 2 ^ 32
-  baseline-most m h = omega (arith, amount-most 0 4294967295 (baselineCo2Of book m) (project-in book v m h 3 (lit≤ tt) tt))
+  pub baseline-co2-most : (m : ℕ) → m ≤ months → amountOf (baselineCo2Of book m) < 2 ^ 32
+  baseline-co2-most m h = omega (arith, amount-most 0 4294967295 (baselineCo2Of book m) (project-in book v m h 3 (lit≤ tt) tt))
 
-  pub project-most : (m : ℕ) → m ≤ months → amountOf (projectCo2Of book m) < 2 ^ 32
-  project-most m h = omega (arith, amount-most 0 4294967295 (projectCo2Of book m) (project-in book v m h 4 (lit≤ tt) tt))
+  pub project-co2-most : (m : ℕ) → m ≤ months → amountOf (projectCo2Of book m) < 2 ^ 32
+  project-co2-most m h = omega (arith, amount-most 0 4294967295 (projectCo2Of book m) (project-in book v m h 4 (lit≤ tt) tt))
 
   pub destroyed-most : (m device : ℕ) → m ≤ months → device ≤ devices → amountOf (destroyedOf book m device) ≤ 10 ^ 12
   destroyed-most m device h k = amount-most 0 (10 ^ 12) (destroyedOf book m device) (meter-in book v m device h k 2 (lit≤ tt) tt)

@@ -78,58 +78,58 @@ module _ {x y : ℤ} (z : ℤ) (n : ℕ) (x-is : x ≡ z) (y-is : y ≡ pos n) (
 -- the sizes on the way to the total
 pub reduction-size :
     (baseline : Co2e) (operator : Operator) →
-    mag (reductionOf baseline operator) ≤ baseline .0 + operator .methane .0 + meteredOf operator .0 + 1
+    mag (reductionOf baseline operator) ≤ baseline .0 + operator .«project_methane» .0 + meteredOf operator .0 + 1
 reduction-size baseline operator =
     omega (
       arith,
-      minus-size (pos (baseline .0)) (operator .methane .0),
+      minus-size (pos (baseline .0)) (operator .«project_methane» .0),
       lesser-size (modelledOf baseline operator) (pos (meteredOf operator .0)),
     )
 
 pub total-size :
     (baseline : Co2e) (operator : Operator) →
     mag (totalOf baseline operator) ≤
-    baseline .0 + operator .methane .0 + meteredOf operator .0 + operator .baseline .0 + operator .project .0 + 3
+    baseline .0 + operator .«project_methane» .0 + meteredOf operator .0 + operator .«baseline_co2» .0 + operator .«project_co2» .0 + 3
 unfolding totalOf
 total-size baseline operator =
     let reduction = reductionOf baseline operator in
     omega (
       arith,
       reduction-size baseline operator,
-      plus-size reduction (operator .baseline .0),
-      minus-size (reduction +ℤ pos (operator .baseline .0)) (operator .project .0),
+      plus-size reduction (operator .«baseline_co2» .0),
+      minus-size (reduction +ℤ pos (operator .«baseline_co2» .0)) (operator .«project_co2» .0),
     )
 
 -- the total, from the numbers that its code holds: the reduction x, the baseline's carbon dioxide y and the project's z
-module _ (baseline : Co2e) (operator : Operator) (small : baseline .0 < sumsMost) (fits : OperatorFits operator) {x y : ℤ} (x-is : x ≡ reductionOf baseline operator) (y-is : y ≡ pos (operator .baseline .0)) where
+module _ (baseline : Co2e) (operator : Operator) (small : baseline .0 < sumsMost) (fits : OperatorFits operator) {x y : ℤ} (x-is : x ≡ reductionOf baseline operator) (y-is : y ≡ pos (operator .«baseline_co2» .0)) where
   abbrev added : ℤ
-  added = reductionOf baseline operator +ℤ pos (operator .baseline .0)
+  added = reductionOf baseline operator +ℤ pos (operator .«baseline_co2» .0)
 
   reduction-small : mag (reductionOf baseline operator) < 2 ^ 62
-  reduction-small = omega (arith, reduction-size baseline operator, fits .methane, fits .metered)
+  reduction-small = omega (arith, reduction-size baseline operator, fits .project-methane, fits .metered)
 
   added-small : mag added < 2 ^ 62
   added-small =
       omega (
         arith,
-        plus-size (reductionOf baseline operator) (operator .baseline .0),
+        plus-size (reductionOf baseline operator) (operator .«baseline_co2» .0),
         reduction-size baseline operator,
-        fits .methane,
+        fits .project-methane,
         fits .metered,
-        fits .baseline,
+        fits .baseline-co2,
       )
 
   pub added-fits : SFits w64 (toZ w64 (ofZ w64 x) +ℤ toZ w64 (ofZ w64 y))
-  added-fits = sum-fits (reductionOf baseline operator) (operator .baseline .0) x-is y-is reduction-small (fits .baseline)
+  added-fits = sum-fits (reductionOf baseline operator) (operator .«baseline_co2» .0) x-is y-is reduction-small (fits .baseline-co2)
 
   added-is : toZ w64 (ofZ w64 x) +ℤ toZ w64 (ofZ w64 y) ≡ added
-  added-is = sum-is (reductionOf baseline operator) (operator .baseline .0) x-is y-is reduction-small (fits .baseline)
+  added-is = sum-is (reductionOf baseline operator) (operator .«baseline_co2» .0) x-is y-is reduction-small (fits .baseline-co2)
 
-  module _ {z : ℤ} (z-is : z ≡ pos (operator .project .0)) where
+  module _ {z : ℤ} (z-is : z ≡ pos (operator .«project_co2» .0)) where
     pub total-fits : SFits w64 (toZ w64 (ofZ w64 (toZ w64 (ofZ w64 x) +ℤ toZ w64 (ofZ w64 y))) -ℤ toZ w64 (ofZ w64 z))
-    total-fits = difference-fits added (operator .project .0) added-is z-is added-small (fits .project)
+    total-fits = difference-fits added (operator .«project_co2» .0) added-is z-is added-small (fits .project-co2)
 
     pub total-read :
         toZ w64 (ofZ w64 (toZ w64 (ofZ w64 (toZ w64 (ofZ w64 x) +ℤ toZ w64 (ofZ w64 y))) -ℤ toZ w64 (ofZ w64 z))) ≡ totalOf baseline operator
     unfolding totalOf
-    total-read = difference-read added (operator .project .0) added-is z-is added-small (fits .project)
+    total-read = difference-read added (operator .«project_co2» .0) added-is z-is added-small (fits .project-co2)

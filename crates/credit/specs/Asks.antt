@@ -7,7 +7,7 @@ abbrev pub sumsMost : ℕ
 sumsMost = 2 ^ 60
 
 pub record OperatorFits (operator : Operator) : Type 0 where
-  pub methane : operator .methane .0 < sumsMost
-  pub baseline : operator .baseline .0 < sumsMost
-  pub project : operator .project .0 < sumsMost
+  pub project-methane : operator .«project_methane» .0 < sumsMost
+  pub baseline-co2 : operator .«baseline_co2» .0 < sumsMost
+  pub project-co2 : operator .«project_co2» .0 < sumsMost
   pub metered : meteredOf operator .0 < sumsMost

@@ -29,15 +29,15 @@ overYear year each = sum monthsInYear (λ m. each (monthsBefore year + m))
 abbrev pub operatorOf : List ℕ → ℕ → Operator
 operatorOf book year =
     record {
-      methane = co2e (overYear year (λ m. gramsOf (projectMethaneOf book m) .0));
-      baseline = co2e (overYear year (λ m. gramsOf (baselineCo2Of book m) .0));
-      project = co2e (overYear year (λ m. gramsOf (projectCo2Of book m) .0));
+      «project_methane» = co2e (overYear year (λ m. gramsOf (projectMethaneOf book m) .0));
+      «baseline_co2» = co2e (overYear year (λ m. gramsOf (baselineCo2Of book m) .0));
+      «project_co2» = co2e (overYear year (λ m. gramsOf (projectCo2Of book m) .0));
       destroyed = methane (overYear year (λ m. destroyedAt book m .0));
     }
 
 -- modelled, signed; and metered
 abbrev pub modelledOf : Co2e → Operator → ℤ
-modelledOf baseline operator = pos (baseline .0) -ℤ pos (operator .methane .0)
+modelledOf baseline operator = pos (baseline .0) -ℤ pos (operator .«project_methane» .0)
 
 abbrev pub meteredOf : Operator → Co2e
 meteredOf operator = warmingOf (operator .destroyed) potential
@@ -51,4 +51,4 @@ reductionOf baseline operator = lesserOf (modelledOf baseline operator) (pos (me
 
 -- the total
 unfoldable pub totalOf : Co2e → Operator → ℤ
-totalOf baseline operator = reductionOf baseline operator +ℤ pos (operator .baseline .0) -ℤ pos (operator .project .0)
+totalOf baseline operator = reductionOf baseline operator +ℤ pos (operator .«baseline_co2» .0) -ℤ pos (operator .«project_co2» .0)

@@ -19,9 +19,9 @@ const KILOGRAM: u64 = 1_000;
 // What the operator entered: project methane, the baseline's and the project's carbon dioxide, and what
 // the devices destroyed.
 pub struct Operator {
-    pub methane: Co2e,
-    pub baseline: Co2e,
-    pub project: Co2e,
+    pub project_methane: Co2e,
+    pub baseline_co2: Co2e,
+    pub project_co2: Co2e,
     pub destroyed: Methane,
 }
 
@@ -32,21 +32,21 @@ pub fn operator_of(book: &[u8], year: usize) -> Operator
     ensures { λ r. ⌜ r ≡ operatorOf (now (book .entry)) year ⌝ }
 {
     let before = months::months_before(year);
-    let mut methane = Co2e::of_grams(0);
-    let mut baseline = Co2e::of_grams(0);
-    let mut project = Co2e::of_grams(0);
+    let mut project_methane = Co2e::of_grams(0);
+    let mut baseline_co2 = Co2e::of_grams(0);
+    let mut project_co2 = Co2e::of_grams(0);
     let mut destroyed = Methane::of_grams(0);
     for nth in 1..=MONTHS_IN_YEAR {
         let month = before + nth;
-        methane = methane.plus(grams(slots::project_methane(book, month)));
-        baseline = baseline.plus(grams(slots::baseline_co2(book, month)));
-        project = project.plus(grams(slots::project_co2(book, month)));
+        project_methane = project_methane.plus(grams(slots::project_methane(book, month)));
+        baseline_co2 = baseline_co2.plus(grams(slots::baseline_co2(book, month)));
+        project_co2 = project_co2.plus(grams(slots::project_co2(book, month)));
         destroyed = destroyed.plus(destroyed_in(book, month));
     }
     Operator {
-        methane,
-        baseline,
-        project,
+        project_methane,
+        baseline_co2,
+        project_co2,
         destroyed,
     }
 }
@@ -82,7 +82,7 @@ pub fn total(baseline: Co2e, operator: Operator) -> i64
     ensures { λ r. ⌜ r ≡ totalOf baseline operator ⌝ }
 {
     let reduction = lesser(modelled(baseline, operator), signed(operator.metered()));
-    reduction + signed(operator.baseline) - signed(operator.project)
+    reduction + signed(operator.baseline_co2) - signed(operator.project_co2)
 }
 
 fn modelled(baseline: Co2e, operator: Operator) -> i64
@@ -90,7 +90,7 @@ fn modelled(baseline: Co2e, operator: Operator) -> i64
     requires { ⌜ OperatorFits operator ⌝ }
     ensures { λ r. ⌜ r ≡ modelledOf baseline operator ⌝ }
 {
-    signed(baseline) - signed(operator.methane)
+    signed(baseline) - signed(operator.project_methane)
 }
 
 fn lesser(modelled: i64, metered: i64) -> i64

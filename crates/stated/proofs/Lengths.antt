@@ -19,7 +19,7 @@ solids-length f = simp length-append (omega arith)
 
 pub grams-length :
     (f : Figures) → length (gramsLine f)
-    ≡ 28 + length (decimal (f .baseline .0)) + length (decimal (f .project .0)) + length (decimal (f .metered .0))
+    ≡ 28 + length (decimal (f .baseline .0)) + length (decimal (f .«project_methane» .0)) + length (decimal (f .metered .0))
 unfolding gramsLine
 grams-length f = simp length-append (omega arith)
 

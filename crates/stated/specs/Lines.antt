@@ -16,7 +16,7 @@ solidsLine figures =
 
 -- line three: grams of carbon dioxide equivalent
 unfoldable pub gramsLine : Figures → List ℕ
-gramsLine figures = figure "baseline " (figures .baseline .0) ++ figure " project " (figures .project .0) ++ figure " metered " (figures .metered .0) ++ newline
+gramsLine figures = figure "baseline " (figures .baseline .0) ++ figure " project " (figures .«project_methane» .0) ++ figure " metered " (figures .metered .0) ++ newline
 
 -- line four: tonnes
 unfoldable pub tonnesLine : Figures → List ℕ

@@ -44,7 +44,7 @@ fn lay_grams_line(page: &mut [u8], at: usize, figures: Figures) -> usize
     ensures { λ r. ⌜ Lays (now (page .entry)) at (gramsLine figures) r (now (page .exit)) ⌝ }
 {
     let baseline = lay_co2e(page, at, b"baseline ", figures.baseline);
-    let project = lay_co2e(page, baseline, b" project ", figures.project);
+    let project = lay_co2e(page, baseline, b" project ", figures.project_methane);
     let metered = lay_co2e(page, project, b" metered ", figures.metered);
     page::lay_word(page, metered, b"\n")
 }

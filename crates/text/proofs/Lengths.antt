@@ -22,7 +22,7 @@ pub record Held (f : Figures) : Type 0 where
   pub removed : f .removed .0 < 2 ^ 64
   pub carried : f .carried .0 < 2 ^ 64
   pub baseline : f .baseline .0 < 2 ^ 64
-  pub project : f .project .0 < 2 ^ 64
+  pub project-methane : f .«project_methane» .0 < 2 ^ 64
   pub metered : f .metered .0 < 2 ^ 64
   pub net : SFits w64 (f .net)
   pub credited : f .credited < 2 ^ 64
@@ -41,7 +41,7 @@ year-fits year f y h =
       wide (f .carried .0) (h .carried),
       grams-length f,
       wide (f .baseline .0) (h .baseline),
-      wide (f .project .0) (h .project),
+      wide (f .«project_methane» .0) (h .project-methane),
       wide (f .metered .0) (h .metered),
       tonnes-length f,
       wide-signed (f .net) (h .net),

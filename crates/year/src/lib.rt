@@ -21,14 +21,14 @@ const LACKING: u8 = 8;
 const OVER_SHARED: u8 = 7;
 
 // The year's figures: solids over the anaerobic lines, with what is carried past the year's end; carbon
-// dioxide equivalent, where project is project methane; and tonnes.
+// dioxide equivalent; and tonnes.
 pub struct Figures {
     pub entered: Solids,
     pub degraded: Solids,
     pub removed: Solids,
     pub carried: Solids,
     pub baseline: Co2e,
-    pub project: Co2e,
+    pub project_methane: Co2e,
     pub metered: Co2e,
     pub net: i64,
     pub credited: u64,
@@ -85,7 +85,7 @@ fn figures_of(book: &[u8], year: usize) -> Figures
     let removed = sums.removed;
     let carried = sums.carried;
     let baseline = sums.baseline;
-    let project = operator.methane;
+    let project_methane = operator.project_methane;
     let metered = operator.metered();
     let net = tonnes::net(credit::total(baseline, operator));
     Figures {
@@ -94,7 +94,7 @@ fn figures_of(book: &[u8], year: usize) -> Figures
         removed,
         carried,
         baseline,
-        project,
+        project_methane,
         metered,
         net,
         credited: tonnes::credited(net),

@@ -16,14 +16,14 @@ signed-requires-2 c κs = search needs
 sub-result : tie.Need-sub-result
 sub-result c =
     let start = c .before .before in
-    difference-fits (pos (start .args .baseline .0)) (start .args .operator .methane .0) (c .before .signed .ensures) (c .signed2 .ensures) (omega
-    (arith, start .pre .0)) (start .pre .1 .methane)
+    difference-fits (pos (start .args .baseline .0)) (start .args .operator .«project_methane» .0) (c .before .signed .ensures) (c .signed2 .ensures) (omega
+    (arith, start .pre .0)) (start .pre .1 .project-methane)
 
 returns : tie.Need-returns
 returns c =
     let start = c .before .before in
-    difference-read (pos (start .args .baseline .0)) (start .args .operator .methane .0) (c .before .signed .ensures) (c .signed2 .ensures) (omega
-    (arith, start .pre .0)) (start .pre .1 .methane)
+    difference-read (pos (start .args .baseline .0)) (start .args .operator .«project_methane» .0) (c .before .signed .ensures) (c .signed2 .ensures) (omega
+    (arith, start .pre .0)) (start .pre .1 .project-methane)
 
 pub modelled-spec : {M : Type 1} → statement M
 modelled-spec = tie.close (tie.spec signed-requires signed-requires-2 sub-result returns)

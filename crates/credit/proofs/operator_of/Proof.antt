@@ -13,8 +13,8 @@ use Rattle.keys.specs.Table.{months}
 use Rattle.slots.specs.Reads.{projectMethaneOf, baselineCo2Of, projectCo2Of}
 use Rattle.months.specs.Series.{monthsBefore}
 use Rattle.credit.specs.Credit.{gramsOf, destroyedAt}
-use Rattle.credit.proofs.Bounds.{baseline-small, destroyed-fits, destroyed-more, methane-small, month-fits, month-more, project-small}
-use Rattle.credit.proofs.Ranges.{baseline-most, methane-most, project-most}
+use Rattle.credit.proofs.Bounds.{baseline-co2-small, destroyed-fits, destroyed-more, project-methane-small, month-fits, month-more, project-co2-small}
+use Rattle.credit.proofs.Ranges.{baseline-co2-most, project-methane-most, project-co2-most}
 use Rattle.credit.proofs.operator_of.Statement.{statement}
 use Rattle.credit.proofs.operator_of.Tie as tie
 
@@ -71,14 +71,14 @@ project-methane-requires c κs = (c .before .before .before .before .before .bef
 grams-requires : tie.Need-grams-requires Inv-loop μ-loop
 grams-requires c κs =
     let start = c .before .before .before .before .before .before .before .before .before in
-    rw (c .project-methane .ensures) (methane-most (now (start .args .book)) (start .pre .0) _ (within (c .before)))
+    rw (c .project-methane .ensures) (project-methane-most (now (start .args .book)) (start .pre .0) _ (within (c .before)))
 
 plus-requires : tie.Need-plus-requires Inv-loop μ-loop
 plus-requires c κs =
     let loop = c .before .before .before .loop in
     let start = c .before .before .before .before .before .before .before .before .before .before in
     month-fits (projectMethaneOf (now (start .args .book))) (monthsBefore (start .args .year)) (loop .nth) (omega arith) (at-is (c .before .before)) (c .before .project-methane .ensures) (c .grams .ensures)
-    (loop .inv .3) (omega arith) (λ m low high. methane-small (now (start .args .book)) (start .pre .0) (start .args .year) (start .pre .1) m (omega arith))
+    (loop .inv .3) (omega arith) (λ m low high. project-methane-small (now (start .args .book)) (start .pre .0) (start .args .year) (start .pre .1) m (omega arith))
 
 baseline-co2-requires : tie.Need-baseline-co2-requires Inv-loop μ-loop
 baseline-co2-requires c κs = (c .before .before .before .before .before .before .before .before .before .before .before .pre .0, within (c .before .before .before))
@@ -86,14 +86,14 @@ baseline-co2-requires c κs = (c .before .before .before .before .before .before
 grams-requires-2 : tie.Need-grams-requires-2 Inv-loop μ-loop
 grams-requires-2 c κs =
     let start = c .before .before .before .before .before .before .before .before .before .before .before .before in
-    rw (c .baseline-co2 .ensures) (baseline-most (now (start .args .book)) (start .pre .0) _ (within (c .before .before .before .before)))
+    rw (c .baseline-co2 .ensures) (baseline-co2-most (now (start .args .book)) (start .pre .0) _ (within (c .before .before .before .before)))
 
 plus-requires-2 : tie.Need-plus-requires-2 Inv-loop μ-loop
 plus-requires-2 c κs =
     let loop = c .before .before .before .before .before .before .loop in
     let start = c .before .before .before .before .before .before .before .before .before .before .before .before .before in
     month-fits (baselineCo2Of (now (start .args .book))) (monthsBefore (start .args .year)) (loop .nth) (omega arith) (at-is (c .before .before .before .before .before)) (c .before .baseline-co2 .ensures) (c .grams2 .ensures)
-    (loop .inv .4) (omega arith) (λ m low high. baseline-small (now (start .args .book)) (start .pre .0) (start .args .year) (start .pre .1) m (omega arith))
+    (loop .inv .4) (omega arith) (λ m low high. baseline-co2-small (now (start .args .book)) (start .pre .0) (start .args .year) (start .pre .1) m (omega arith))
 
 project-co2-requires : tie.Need-project-co2-requires Inv-loop μ-loop
 project-co2-requires c κs = (c .before .before .before .before .before .before .before .before .before .before .before .before .before .before .pre .0, within (c .before .before .before .before .before .before))
@@ -101,14 +101,14 @@ project-co2-requires c κs = (c .before .before .before .before .before .before 
 grams-requires-3 : tie.Need-grams-requires-3 Inv-loop μ-loop
 grams-requires-3 c κs =
     let start = c .before .before .before .before .before .before .before .before .before .before .before .before .before .before .before in
-    rw (c .project-co2 .ensures) (project-most (now (start .args .book)) (start .pre .0) _ (within (c .before .before .before .before .before .before .before)))
+    rw (c .project-co2 .ensures) (project-co2-most (now (start .args .book)) (start .pre .0) _ (within (c .before .before .before .before .before .before .before)))
 
 plus-requires-3 : tie.Need-plus-requires-3 Inv-loop μ-loop
 plus-requires-3 c κs =
     let loop = c .before .before .before .before .before .before .before .before .before .loop in
     let start = c .before .before .before .before .before .before .before .before .before .before .before .before .before .before .before .before in
     month-fits (projectCo2Of (now (start .args .book))) (monthsBefore (start .args .year)) (loop .nth) (omega arith) (at-is (c .before .before .before .before .before .before .before .before)) (c .before .project-co2 .ensures) (c .grams3 .ensures)
-    (loop .inv .5) (omega arith) (λ m low high. project-small (now (start .args .book)) (start .pre .0) (start .args .year) (start .pre .1) m (omega arith))
+    (loop .inv .5) (omega arith) (λ m low high. project-co2-small (now (start .args .book)) (start .pre .0) (start .args .year) (start .pre .1) m (omega arith))
 
 destroyed-in-requires : tie.Need-destroyed-in-requires Inv-loop μ-loop
 destroyed-in-requires c κs = (c .before .before .before .before .before .before .before .before .before .before .before .before .before .before .before .before .before .pre .0, within (c .before .before .before .before .before .before .before .before .before))

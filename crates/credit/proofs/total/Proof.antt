@@ -20,7 +20,7 @@ reduced c =
     let fits = start .pre .1 in
     lesser-is (c .before .before .before .modelled .result) (c .before .signed .result) (modelledOf baseline operator) (pos (meteredOf operator .0))
     (read-back (modelledOf baseline operator) (c .before .before .before .modelled .ensures)
-    (omega (arith, minus-size (pos (baseline .0)) (operator .methane .0), start .pre .0, fits .methane)))
+    (omega (arith, minus-size (pos (baseline .0)) (operator .«project_methane» .0), start .pre .0, fits .project-methane)))
     (read-back (pos (meteredOf operator .0)) (c .before .signed .ensures ∙ ap (λ (m : Co2e). pos (m .0)) (c .before .before .metered .ensures))
     (omega (arith, fits .metered)))
     (c .lesser .ensures)
