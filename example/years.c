@@ -36,7 +36,7 @@ static void print_year(unsigned long long number, struct cabinet_year year)
            (unsigned long long)year.entered, (unsigned long long)year.degraded,
            (unsigned long long)year.removed, (unsigned long long)year.carried);
     printf("baseline %llu project %llu metered %llu\n",
-           (unsigned long long)year.baseline, (unsigned long long)year.project,
+           (unsigned long long)year.baseline, (unsigned long long)year.project_methane,
            (unsigned long long)year.metered);
     printf("net %lld credited %llu\n", (long long)year.net,
            (unsigned long long)year.credited);

@@ -51,15 +51,15 @@ struct cabinet_posted {
 struct cabinet_year {
     uint64_t number;
     uint64_t place;
-    uint64_t entered;  /* grams of volatile solids */
-    uint64_t degraded; /* grams of volatile solids */
-    uint64_t removed;  /* grams of volatile solids */
-    uint64_t carried;  /* grams of volatile solids */
-    uint64_t baseline; /* grams of carbon dioxide equivalent, over all lines */
-    uint64_t project;  /* grams of carbon dioxide equivalent: project methane */
-    uint64_t metered;  /* grams of carbon dioxide equivalent: 21 x destroyed */
-    int64_t net;       /* tonnes, nearest, an exact half to the lower number */
-    uint64_t credited; /* tonnes: net, or 0 where net is below 0 */
+    uint64_t entered;         /* grams of volatile solids */
+    uint64_t degraded;        /* grams of volatile solids */
+    uint64_t removed;         /* grams of volatile solids */
+    uint64_t carried;         /* grams of volatile solids */
+    uint64_t baseline;        /* grams of carbon dioxide equivalent, all lines */
+    uint64_t project_methane; /* grams of carbon dioxide equivalent */
+    uint64_t metered;         /* grams of carbon dioxide equivalent: 21 x destroyed */
+    int64_t net;              /* tonnes, nearest, an exact half to the lower number */
+    uint64_t credited;        /* tonnes: net, or 0 where net is below 0 */
 };
 
 /* A meter month. */

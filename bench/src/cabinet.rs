@@ -20,7 +20,7 @@ pub struct Year {
     pub removed: u64,
     pub carried: u64,
     pub baseline: u64,
-    pub project: u64,
+    pub project_methane: u64,
     pub metered: u64,
     pub net: i64,
     pub credited: u64,

@@ -121,7 +121,7 @@ fn year_of(answer: Result<YearFigures, Refusal>) -> cabinet::Year {
         removed: 0,
         carried: 0,
         baseline: 0,
-        project: 0,
+        project_methane: 0,
         metered: 0,
         net: 0,
         credited: 0,
@@ -133,7 +133,7 @@ fn year_of(answer: Result<YearFigures, Refusal>) -> cabinet::Year {
             removed: figures.solids.removed,
             carried: figures.solids.carried,
             baseline: figures.baseline,
-            project: figures.project_methane,
+            project_methane: figures.project_methane,
             metered: figures.metered,
             net: figures.net.try_into().expect("a net within 64 bits"),
             credited: figures
