@@ -14,7 +14,7 @@ use reading::Measure;
 use year::Answer;
 use year::Figures;
 
-// The number of what is not refused.
+// The number that says that nothing was refused.
 const NOT_REFUSED: u64 = 0;
 
 // A record: a refusal's number and place.
@@ -55,7 +55,7 @@ pub struct CabinetReading {
     pub whole: u64,
 }
 
-// Makes lent memory an empty book; of another size than a book's, it is left as it is, and the answer is false.
+// Makes lent memory an empty book. Memory of another size than a book's is left as it is, and the answer is false.
 #[no_mangle]
 pub extern "C" fn cabinet_empty(memory: &mut [u8]) -> bool
     ensures { λ r. ⌜ r ≡ sized (now (memory .entry)) ⌝ }
@@ -87,7 +87,7 @@ pub extern "C" fn cabinet_post(book: &mut [u8], posted: &[u8]) -> CabinetPosted
     }
 }
 
-// A year of a book, whatever the year.
+// A year of a book, for any year number.
 #[no_mangle]
 pub extern "C" fn cabinet_year(book: &[u8], year: u64) -> CabinetYear
     requires { ⌜ Valid (now book) ⌝ }

@@ -75,7 +75,7 @@ fn destroyed_in(book: &[u8], month: usize) -> Methane
     destroyed
 }
 
-// The methane reduction, with the baseline's carbon dioxide and without the project's.
+// The methane reduction, plus the baseline's carbon dioxide, less the project's.
 pub fn total(baseline: Co2e, operator: Operator) -> i64
     requires { ⌜ baseline .0 < sumsMost ⌝ }
     requires { ⌜ OperatorFits operator ⌝ }

@@ -11,10 +11,10 @@ ghost use Rattle.gaps.specs.Filling.{neighbours, plus, totalOf, meanOf, 
 use series::MOST_HOURS;
 use series::Value;
 
-// A run of up to so many hours is filled.
+// The longest run that is filled, in hours.
 const LONGEST: usize = 5;
 
-// So many hours before a run make its average, and as many after it.
+// The hours before a run that its average takes in; it takes in the same number after it.
 const NEIGHBOURS: usize = 4;
 
 // The hours of an average, of both sides.
@@ -130,7 +130,7 @@ fn average(hours: &[u64], start: usize, end: usize) -> Value
     mean(sum(before, after))
 }
 
-// The sum of as many hours as there are neighbours on a side, where each is recorded.
+// The sum of the four hours from one on, where each is recorded.
 fn total(hours: &[u64], from: usize) -> Value
     requires { ⌜ from ≤ mostHours ⌝ }
     requires { ⌜ Small (now hours) ⌝ }

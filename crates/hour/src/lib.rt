@@ -13,7 +13,7 @@ use series::Value;
 use state::Reading;
 use units::Methane;
 
-// A device that destroys all has this efficiency.
+// The efficiency of a device that destroys all methane: efficiency counts ten-thousandths.
 pub const WHOLE_EFFICIENCY: u32 = 10_000;
 
 // An hour of a month: taken, with its flow in litres and its content in hundredths of a per cent, where they are there, or refused.
@@ -22,7 +22,7 @@ pub enum Hour {
     Refused,
 }
 
-// Neither value, and the device out.
+// The highest state: neither value, and the device out.
 const MOST_STATE: u8 = 7;
 
 // What an hour, from 0, records, or that it is refused.
@@ -64,7 +64,7 @@ fn with_content(flow: Value, content: f32) -> Hour
     }
 }
 
-// What a meter's flow is counted in, and so what it weighs.
+// What a meter counts its flow in, which decides what the flow weighs.
 pub enum Kind {
     CubicMetres,
 }
@@ -114,7 +114,7 @@ fn weigh(kind: Kind, flow: Value, content: Value) -> Methane
     }
 }
 
-// A hundred for the hundredths of a gram in a litre, times the ten thousand hundredths of a per cent in the whole.
+// The density counts hundredths of a gram in a litre, and the whole has 10,000 hundredths of a per cent.
 const DENSITY_PARTS: u64 = 1_000_000;
 
 impl Kind {

@@ -37,7 +37,7 @@ areHours flows contents states = eqb flows states && eqb contents states && isMo
 abbrev pub firstRefused : List Float → List Float → List ℕ → ℕ
 firstRefused flows contents states = firstFrom 0 (length states) (λ h. isRefused (hourAt flows contents states h))
 
--- a meter month checks 10, 4, 11, and else states the grams destroyed
+-- a meter month checks 10, 4, 11 in this order; otherwise it states the grams destroyed
 unfoldable pub monthOf : List Float → List Float → List ℕ → ℕ → MonthAnswer
 monthOf flows contents states efficiency =
     cond (not (areHours (length flows) (length contents) (length states))) (Refused 10 0)

@@ -40,8 +40,8 @@ pub enum Answer {
     Refused(u8, u64),
 }
 
-// A year is refused as no year of the period, for a record that it lacks, before any sum is taken, or
-// for a category's shares; else its figures are stated.
+// A year is refused if it is not a year of the crediting period (9), if it lacks a record (8), before anything is
+// added up, or for a category's shares (7); else its figures are stated.
 pub fn year(book: &[u8], year: u64) -> Answer
     requires { ⌜ Valid (now book) ⌝ }
     ensures { λ r. ⌜ r ≡ answerOf (now (book .entry)) year ⌝ }
