@@ -1,10 +1,7 @@
 -- No two outcomes fit the contract of a public function. Assumes nothing.
-use mathlib.Core.Path.{ap}
-use Rattle.units.specs.declared.solids.Solids.{Solids}
 use Rattle.laws.proofs.Determined.{OneAnswer, one}
 use Rattle.lagoon.proofs.entered.Reads as Entered
 use Rattle.lagoon.proofs.Standing.empty.Reads as StandingEmpty
-use Rattle.lagoon.proofs.Standing.of.Reads as StandingOf
 use Rattle.lagoon.proofs.Standing.carried.Reads as StandingCarried
 use Rattle.lagoon.proofs.Standing.month.Reads as StandingMonth
 
@@ -13,9 +10,6 @@ entered-one κ a x y s t = one
 
 pub standing-empty-one : OneAnswer StandingEmpty.Learnt
 standing-empty-one κ a x y s t = one
-
-pub standing-of-one : OneAnswer StandingOf.Learnt
-standing-of-one κ a x y s t p q = ap (λ (carried : Solids). record { 0 = carried }) (one p q)
 
 pub standing-carried-one : OneAnswer StandingCarried.Learnt
 standing-carried-one κ a x y s t = one

@@ -36,7 +36,7 @@ pub struct Outcome {
 }
 
 // What stands in a line's lagoon as a month begins: what the month before handed on. `empty` and `month`
-// make one; `of` takes up again what a month handed on, kept as solids between one year and the next.
+// alone make one.
 pub struct Standing(Solids);
 
 impl Standing {
@@ -45,12 +45,6 @@ impl Standing {
         ensures { λ r. ⌜ r ≡ emptyOf ⌝ }
     {
         Standing(Solids::of_grams(0))
-    }
-
-    pub fn of(carried: Solids) -> Self
-        ensures { λ r. ⌜ r .0 ≡ carried ⌝ }
-    {
-        Standing(carried)
     }
 
     pub fn carried(self) -> Solids

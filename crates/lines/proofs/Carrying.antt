@@ -1,4 +1,4 @@
--- What each line carries from one year to the next: a line's own carried solids are what it carries past the year's end, and the lines are renewed one by one.
+-- What each line hands on from one year to the next: a year's months end where all the months through it do, and the lines are renewed one by one.
 -- Assumes nothing.
 use Prim.Native.Nat.{ℕ, zero, suc, _+_, _-_, _≤_, _<_}
 use mathlib.Core.List.{List}
@@ -7,86 +7,78 @@ use native.Mathlib.Decide.{decLt}
 use native.Mathlib.Omega.{arith}
 use lib.ListN.{length, getD, set, replicate, length-set, length-replicate, getD-replicate}
 use lib.Seq.{getD-set-same, getD-set-other}
-use Rattle.units.specs.Grams.{solids}
-use Rattle.units.specs.declared.solids.Solids.{Solids}
 use Rattle.run.proofs.Years.{joined}
 use Rattle.lagoon.specs.Month.{emptyOf}
 use Rattle.run.specs.Run.{runFrom, runOf, yearOf}
 use Rattle.lagoon.specs.declared.Standing.{Standing}
+use Rattle.run.specs.declared.Totals.{Totals}
 use Rattle.keys.specs.Table.{lines}
 use Rattle.herd.specs.Herd.{systemOf}
 use Rattle.slots.specs.declared.Seen.{Seen}
-use Rattle.slots.specs.declared.Seen.the-variants.{Value}
+use Rattle.slots.specs.declared.Seen.the-variants.{Nothing, Value}
+use Rattle.calendar.specs.Days.{monthsInYear}
 use Rattle.months.specs.Series.{monthsBefore, monthsThrough}
-use Rattle.lines.specs.Asks.{carriedBy, Carried}
-use Rattle.lines.specs.Lines.{anaerobic, lineIn, monthAt}
-use Rattle.sums.specs.declared.Sums.{Sums}
-use Rattle.lines.proofs.BySystem.{anaerobic-is}
+use Rattle.lines.specs.Asks.{Handed, Standings}
+use Rattle.lines.specs.Lines.{anaerobic, monthAt}
 
--- before the first month nothing is carried
-pub none-carried : (book : List ℕ) → Carried book 0 (replicate lines 0)
-unfolding carriedBy
-none-carried book =
-    record { long = length-replicate {A = ℕ} lines 0; each = λ line low high. getD-replicate {A = ℕ} lines (line - 1) 0 0 (omega arith) }
+-- before the first month nothing stands
+pub none-handed : (book : List ℕ) {empty : Standing} → empty ≡ emptyOf → Standings book 0 (replicate lines empty)
+unfolding runFrom
+none-handed book {empty} is =
+    record {
+      long = length-replicate {A = Standing} lines empty;
+      each = λ line low high a. getD-replicate {A = Standing} lines (line - 1) empty emptyOf (omega arith) ∙ is;
+    }
 
--- the standing of so many grams
-abbrev standing : ℕ → Standing
-standing grams = record { 0 = solids grams }
+-- what a year's months hand on is what all months through it do
+pub year-handed : (book : List ℕ) (line year : ℕ) {totals : Totals} → 1 ≤ year → totals ≡ yearOf (monthAt book line) year → Handed book year line (totals .standing)
+unfolding yearOf
+year-handed book line year low is = λ a.
+    let e : monthsBefore year + monthsInYear ≡ monthsThrough year = omega arith in
+    ap (λ (t : Totals). t .standing) is ∙ sym (subst (λ (n : ℕ). runOf (monthAt book line) n .standing ≡ yearOf (monthAt book line) year .standing) e
+    (joined emptyOf (monthAt book line) (monthsBefore year) monthsInYear .standing))
 
-module _ (book : List ℕ) (line : ℕ) where
-  -- what a line's sums say it carries
-  pub carried-on : (year : ℕ) → 1 ≤ year → lineIn book year line .carried .0 ≡ carriedBy book year line
-  unfolding carriedBy
-  carried-on zero low = absurd (omega arith)
-  carried-on (suc year) low = refl
+-- what the code read of a line's system says whether it hands anything on
+module _ (book : List ℕ) (line : ℕ) {seen : Seen} (read : seen ≡ systemOf book line) where
+  pub handed-absent : (year : ℕ) (standing : Standing) → seen ≡ Nothing → Handed book year line standing
+  handed-absent year standing e = λ a.
+      let both : Nothing ≡ Value anaerobic = sym e ∙ read ∙ a in let z : _≡_ {A = ℕ} 0 1 = cc in absurd (omega arith)
 
-  year-standing : (year : ℕ) → 1 ≤ year → yearOf (monthAt book line) year .standing .0 .0 ≡ runOf (monthAt book line) (monthsThrough year) .standing .0 .0
-  unfolding yearOf
-  year-standing year low =
-      let e : monthsBefore year + 12 ≡ monthsThrough year = omega arith in
-      sym (subst (λ (n : ℕ). runOf (monthAt book line) n .standing .0 .0 ≡ yearOf (monthAt book line) year .standing .0 .0) e
-      (ap (λ (s : Standing). s .0 .0) (joined emptyOf (monthAt book line) (monthsBefore year) 12 .standing)))
+  module _ {system : ℕ} (value : seen ≡ Value system) where
+    pub handed-other : (year : ℕ) (standing : Standing) → (system ≡ anaerobic → ⊥) → Handed book year line standing
+    handed-other year standing other = λ a.
+        let both : Value system ≡ Value anaerobic = sym value ∙ read ∙ a in let z : system ≡ anaerobic = cc in absurd (other z)
 
-  module _ {seen : Seen} {system : ℕ} (read : seen ≡ systemOf book line) (value : seen ≡ Value system) (z : system ≡ anaerobic) where
-    -- an anaerobic line's is its standing
-    pub standing-is : (year : ℕ) → carriedBy book year line ≡ runOf (monthAt book line) (monthsThrough year) .standing .0 .0
-    unfolding carriedBy runFrom
-    standing-is zero = refl
-    standing-is (suc year) =
-        ap (λ (s : Sums). s .carried .0) (sym (anaerobic-is book (suc year) line read value refl z refl refl)) ∙ year-standing (suc year) (omega arith)
-
-    pub taken-up :
-        (year : ℕ) {grams : ℕ} {from : Standing} {kept : Solids} → grams ≡ carriedBy book (year - 1) line → kept ≡ solids grams → from .0 ≡ kept →
-        from ≡ runOf (monthAt book line) (monthsBefore year) .standing
-    taken-up year was kept-is from-is = ap standing (ap (λ (s : Solids). s .0) (from-is ∙ kept-is) ∙ was ∙ standing-is (year - 1))
+    pub taken-up : (year : ℕ) {from : Standing} → system ≡ anaerobic → Handed book year line from → from ≡ runOf (monthAt book line) (monthsThrough year) .standing
+    taken-up year z handed = handed (sym read ∙ value ∙ ap Value z)
 
 -- a walk over the lines that has come to one: those before it are renewed, and it and those after it are as the year before left them
-pub record Renewed (book : List ℕ) (year line : ℕ) (carried : List ℕ) : Type 0 where
-  pub long : length carried ≡ lines
-  pub done : (l : ℕ) → 1 ≤ l → l < line → getD carried (l - 1) 0 ≡ carriedBy book year l
-  pub left : (l : ℕ) → line ≤ l → l ≤ lines → getD carried (l - 1) 0 ≡ carriedBy book (year - 1) l
+pub record Renewed (book : List ℕ) (year line : ℕ) (standings : List Standing) : Type 0 where
+  pub long : length standings ≡ lines
+  pub done : (l : ℕ) → 1 ≤ l → l < line → Handed book year l (getD standings (l - 1) emptyOf)
+  pub left : (l : ℕ) → line ≤ l → l ≤ lines → Handed book (year - 1) l (getD standings (l - 1) emptyOf)
 
-module _ (book : List ℕ) (year : ℕ) {carried : List ℕ} where
-  pub renewed-none : Carried book (year - 1) carried → Renewed book year 1 carried
+module _ (book : List ℕ) (year : ℕ) {standings : List Standing} where
+  pub renewed-none : Standings book (year - 1) standings → Renewed book year 1 standings
   renewed-none before = record { long = before .long; done = λ l low high. absurd (omega arith); left = before .each }
 
-  pub renewed-all : {line : ℕ} → line ≡ lines + 1 → Renewed book year line carried → Carried book year carried
+  pub renewed-all : {line : ℕ} → line ≡ lines + 1 → Renewed book year line standings → Standings book year standings
   renewed-all end renewed = record { long = renewed .long; each = λ l low high. renewed .done l low (omega arith) }
 
-  module _ (line : ℕ) {grams : ℕ} (low : 1 ≤ line) (high : line ≤ lines) (is : grams ≡ carriedBy book year line) (renewed : Renewed book year line carried) where
-    done-more : (l : ℕ) → 1 ≤ l → l < line + 1 → Dec (l < line) → getD (set carried (line - 1) grams) (l - 1) 0 ≡ carriedBy book year l
-    done-more l from to (yes before) =
-        getD-set-other carried (line - 1) (l - 1) grams 0 (λ same. absurd (omega (arith, same))) ∙ renewed .done l from before
+  module _ (line : ℕ) {next : Standing} (low : 1 ≤ line) (high : line ≤ lines) (is : Handed book year line next) (renewed : Renewed book year line standings) where
+    done-more : (l : ℕ) → 1 ≤ l → l < line + 1 → Dec (l < line) → Handed book year l (getD (set standings (line - 1) next) (l - 1) emptyOf)
+    done-more l from to (yes before) = λ a.
+        getD-set-other standings (line - 1) (l - 1) next emptyOf (λ same. absurd (omega (arith, same))) ∙ renewed .done l from before a
     done-more l from to (no here) =
         let e : line ≡ l = omega arith in
-        subst (λ (k : ℕ). getD (set carried (line - 1) grams) (k - 1) 0 ≡ carriedBy book year k) e
-        (getD-set-same carried (line - 1) grams 0 (omega (arith, renewed .long)) ∙ is)
+        subst (λ (k : ℕ). Handed book year k (getD (set standings (line - 1) next) (k - 1) emptyOf)) e
+        (λ a. getD-set-same standings (line - 1) next emptyOf (omega (arith, renewed .long)) ∙ is a)
 
-    pub renewed-more : Renewed book year (line + 1) (set carried (line - 1) grams)
+    pub renewed-more : Renewed book year (line + 1) (set standings (line - 1) next)
     renewed-more =
         record {
-          long = length-set carried (line - 1) grams ∙ renewed .long;
+          long = length-set standings (line - 1) next ∙ renewed .long;
           done = λ l from to. done-more l from to (decLt l line);
-          left = λ l from to.
-              getD-set-other carried (line - 1) (l - 1) grams 0 (λ same. absurd (omega (arith, same))) ∙ renewed .left l (omega arith) to;
+          left = λ l from to a.
+              getD-set-other standings (line - 1) (l - 1) next emptyOf (λ same. absurd (omega (arith, same))) ∙ renewed .left l (omega arith) to a;
         }

@@ -11,7 +11,7 @@ ghost use Rattle.herd.specs.Herd.{lineOf, drainedOf};
 ghost use Rattle.months.specs.Series.{monthsBefore, daysAt, factorAt};
 ghost use Rattle.months.specs.Asks.{InPeriod, Holds};
 ghost use Rattle.lines.specs.Lines.{headAt, enteredAt, monthAt, headsOf, otherOf, lineIn, all, sumsOf};
-ghost use Rattle.lines.specs.Asks.{carriedBy, Carried};
+ghost use Rattle.lines.specs.Asks.{Handed, Standings};
 use herd::Line;
 use lagoon::Standing;
 use months::MONTHS_IN_YEAR;
@@ -20,7 +20,6 @@ use slots::Seen;
 use sums::Sums;
 use units::Solids;
 
-// A number for each line.
 const LINES: usize = keys::LINES;
 
 // LN's system 0.
@@ -35,77 +34,105 @@ const DAYS_IN_YEAR: u64 = 365;
 // A conversion factor counts ten-thousandths.
 const CONVERSION_PARTS: u64 = 10_000;
 
-// All lines of a year. What each carries past the year before is worked out first, from the first month.
+// A line in a year: its sums, and the standing that the year hands on.
+struct LineYear {
+    sums: Sums,
+    standing: Standing,
+}
+
+// All lines of a year together, with the standing that each hands on.
+struct LinesYear {
+    sums: Sums,
+    standings: [Standing; LINES],
+}
+
+// All lines of a year. The standing that each has from the years before is worked out first, from the first
+// month.
 pub fn sums_of(book: &[u8], year: usize) -> Sums
     requires { ⌜ Valid (now book) ⌝ }
     requires { ⌜ InPeriod year ⌝ }
     ensures { λ r. ⌜ r ≡ sumsOf (now (book .entry)) year all ⌝ }
 {
-    let mut carried = carried_before(book, year);
-    sums_from(book, year, &mut carried)
+    let whole = sums_from(book, year, standings_before(book, year));
+    whole.sums
 }
 
-// What each line carries past the year before: the years one after the other, from empty lagoons.
-fn carried_before(book: &[u8], year: usize) -> [u64; LINES]
+// The standing that each line has from the years before: one after the other, from empty lagoons.
+fn standings_before(book: &[u8], year: usize) -> [Standing; LINES]
     requires { ⌜ Valid (now book) ⌝ }
     requires { ⌜ InPeriod year ⌝ }
-    ensures { λ r. ⌜ Carried (now (book .entry)) (year - 1) r ⌝ }
+    ensures { λ r. ⌜ Standings (now (book .entry)) (year - 1) r ⌝ }
 {
-    let mut carried = [0u64; LINES];
+    let empty = Standing::empty();
+    let mut standings = [empty; LINES];
     for earlier in 1..year {
-        sums_from(book, earlier, &mut carried);
+        let past = sums_from(book, earlier, standings);
+        standings = past.standings;
     }
-    carried
+    standings
 }
 
-// All lines, from what each carried past the year before, which is left as what it carries past this
-// one. Days and factors are the months' alone, and worked out once.
-fn sums_from(book: &[u8], year: usize, carried: &mut [u64]) -> Sums
+// All lines, each from the standing that the year before handed on. Days and factors are the months'
+// alone, and worked out once.
+fn sums_from(book: &[u8], year: usize, before: [Standing; LINES]) -> LinesYear
     requires { ⌜ Valid (now book) ⌝ }
     requires { ⌜ InPeriod year ⌝ }
-    requires { ⌜ Carried (now book) (year - 1) (now carried) ⌝ }
-    ensures { λ r. ⌜ r ≡ sumsOf (now (book .entry)) year all ⌝ }
-    ensures { λ _. ⌜ Carried (now (book .entry)) year (now (carried .exit)) ⌝ }
+    requires { ⌜ Standings (now book) (year - 1) before ⌝ }
+    ensures { λ r. ⌜ r .sums ≡ sumsOf (now (book .entry)) year all ⌝ }
+    ensures { λ r. ⌜ Standings (now (book .entry)) year (r .standings) ⌝ }
 {
     let days = months::days(book, year);
     let factors = months::factors(book, year);
+    let mut standings = before;
     let mut sums = Sums::nothing();
     for line in 1..=LINES {
-        let own = line_in(book, year, line, carried[line - 1], &days, &factors);
-        let past = own.carried;
-        carried[line - 1] = past.grams();
-        sums = sums.plus(own);
+        let from = standings[line - 1];
+        let own = line_in(book, year, line, from, &days, &factors);
+        let next = own.standing;
+        standings[line - 1] = next;
+        sums = sums.plus(own.sums);
     }
-    sums
+    LinesYear { sums, standings }
 }
 
-// One line, by its system, from what it carried past the year before.
+// One line, by its system, from the standing that the year before handed on. Of another system than the
+// anaerobic, nothing stands.
 fn line_in(
     book: &[u8],
     year: usize,
     line: usize,
-    carried: u64,
+    from: Standing,
     days: &[u64],
     factors: &[u64],
-) -> Sums
+) -> LineYear
     requires { ⌜ Valid (now book) ⌝ }
     requires { ⌜ InPeriod year ⌝ }
     requires { ⌜ line ≤ lines ⌝ }
-    requires { ⌜ carried ≡ carriedBy (now book) (year - 1) line ⌝ }
+    requires { ⌜ Handed (now book) (year - 1) line from ⌝ }
     requires { ⌜ Holds ℕ 0 (monthsBefore year) monthsInYear (daysAt (now book)) (now days) ⌝ }
     requires { ⌜ Holds ℕ 0 (monthsBefore year) monthsInYear (factorAt (now book)) (now factors) ⌝ }
-    ensures { λ r. ⌜ r ≡ lineIn (now (book .entry)) year line ⌝ }
+    ensures { λ r. ⌜ r .sums ≡ lineIn (now (book .entry)) year line ⌝ }
+    ensures { λ r. ⌜ Handed (now (book .entry)) year line (r .standing) ⌝ }
 {
     let Seen::Value(system) = herd::system(book, line) else {
-        return Sums::nothing();
+        return LineYear {
+            sums: Sums::nothing(),
+            standing: from,
+        };
     };
     let numbers = herd::line_at(book, line);
     if system == ANAEROBIC {
-        let from = Standing::of(Solids::of_grams(carried));
         let totals = solids(book, year, line, numbers, from, days, factors);
-        return Sums::anaerobic(totals, numbers.b0);
+        let standing = totals.standing;
+        return LineYear {
+            sums: Sums::anaerobic(totals, numbers.b0),
+            standing,
+        };
     }
-    other(book, year, line, numbers)
+    LineYear {
+        sums: other(book, year, line, numbers),
+        standing: from,
+    }
 }
 
 // The year's solids of an anaerobic line, from what it entered and when it was drained: its twelve
