@@ -1,22 +1,21 @@
--- An input that is longer than any month is refused, whatever its bytes after the mark: so an input is read no further than that.
+-- An input that is longer than the longest month is refused, whatever its bytes after the mark: so an input is read no further than that.
 -- Assumes nothing.
-use Prim.Native.Nat.{ℕ, _+_, _*_, _-_, _≤_}
+use Prim.Native.Nat.{ℕ, _+_, _*_, _-_, _≤_, _<_}
 use mathlib.Core.Path.{_≡_, refl, ap, sym, _∙_}
 use mathlib.Core.Bool.{Bool, true, false, _&&_, cond}
-use mathlib.Core.List.{List}
+use mathlib.Core.List.{List, _++_}
 use native.Mathlib.Omega.{arith}
 use borrow.Author.Tests.{eqb-true, le-leb}
 use lib.Dec.{eqb, leb}
 use lib.Ieee.{Float}
-use lib.ListN.{length, take, drop, length-drop}
-use lib.Seq.{getD-take, length-take-le}
+use lib.ListN.{length, drop, length-append, length-drop, List·getD-append}
 use Rattle.keys.specs.Number.{numberAt}
 use Rattle.series.specs.Series.{mostHours}
 use Rattle.meter.specs.declared.MonthAnswer.{MonthAnswer}
 use Rattle.meter.specs.declared.MonthAnswer.the-variants.{Refused}
 use Rattle.meter.specs.Month.{areHours, monthOf}
 use Rattle.meter.proofs.Hours.{as-long}
-use Rattle.format.specs.Format.{isOtherMark, floatsAt, lentOf, isWhole, statedOf}
+use Rattle.format.specs.Format.{longestBytes, isOtherMark, floatsAt, lentOf, isWhole, statedOf}
 use Rattle.format.proofs.EachFloat.{floats-length}
 
 -- what is no month is refused 10
@@ -49,10 +48,6 @@ lent-none input flows contents h =
       rw (← n) (e .2),
     ))
 
--- a byte more than the longest month has
-abbrev pub tooLong : ℕ
-tooLong = 6707
-
 picked : (b : Bool) (a : MonthAnswer) → (b ≡ true → a ≡ Refused 10 0) → cond b a (Refused 10 0) ≡ Refused 10 0
 picked true a h = h refl
 picked false a h = refl
@@ -61,7 +56,7 @@ and-r : (a b : Bool) → (a && b) ≡ true → b ≡ true
 and-r true b e = e
 and-r false b e = let z : _≡_ {A = ℕ} 0 1 = cc in absurd (omega arith)
 
-long-refused : (input : List ℕ) → tooLong ≤ length input → statedOf input ≡ cond (isOtherMark input) (Refused 2 0) (Refused 10 0)
+long-refused : (input : List ℕ) → longestBytes < length input → statedOf input ≡ cond (isOtherMark input) (Refused 2 0) (Refused 10 0)
 unfolding statedOf
 long-refused input long =
     let flows = numberAt input 4 2 in
@@ -73,14 +68,20 @@ long-refused input long =
     let whole : length input ≡ 10 + 4 * flows + 4 * contents + states = eqb-true (length input) (10 + 4 * flows + 4 * contents + states) (and-r (leb 10 (length input)) (eqb (length input) (10 + 4 * flows + 4 * contents + states)) e) in
     lent-none input flows contents (λ h. omega (arith, whole, h .0, h .1, h .2))))
 
-same-mark : (input : List ℕ) → tooLong ≤ length input → isOtherMark (take tooLong input) ≡ isOtherMark input
-same-mark input long =
-    let sized : length (take tooLong input) ≡ tooLong = length-take-le tooLong input long in
-    rw (sized, getD-take tooLong input 0 0 (omega arith), getD-take tooLong input 1 0 (omega arith), le-leb 2 (length input) (omega arith))
+module _ (input more : List ℕ) (long : longestBytes < length input) where
+  longer : longestBytes < length (input ++ more)
+  longer = omega (arith, length-append input more)
 
--- what stands past that byte changes nothing
-pub cut-long : (input : List ℕ) → tooLong ≤ length input → statedOf (take tooLong input) ≡ statedOf input
-cut-long input long =
-    long-refused (take tooLong input) (rw (length-take-le tooLong input long) (omega arith))
-    ∙ ap (λ (b : Bool). cond b (Refused 2 0) (Refused 10 0)) (same-mark input long)
-    ∙ sym (long-refused input long)
+  same-mark : isOtherMark (input ++ more) ≡ isOtherMark input
+  same-mark =
+      rw (
+        List·getD-append input more 0 0 (omega arith),
+        List·getD-append input more 0 1 (omega arith),
+        le-leb 2 (length input) (omega arith),
+        le-leb 2 (length (input ++ more)) (omega (arith, longer)),
+      )
+
+  -- what follows such an input changes nothing
+  pub nothing-after : statedOf (input ++ more) ≡ statedOf input
+  nothing-after =
+      long-refused (input ++ more) longer ∙ ap (λ (b : Bool). cond b (Refused 2 0) (Refused 10 0)) same-mark ∙ sym (long-refused input long)

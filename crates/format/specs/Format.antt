@@ -5,11 +5,16 @@ use mathlib.Core.{Bool.Bool, Bool.not, Bool._&&_, Bool.cond, List.List, List.[],
 use lib.{Dec.eqb, Dec.leb, Ieee.Float, ListN.length, ListN.getD, ListN.drop}
 use Rattle.keys.specs.Number.{numberAt}
 use Rattle.float.specs.Float.{floatBytes, floatAt}
+use Rattle.series.specs.Series.{mostHours}
 use Rattle.meter.specs.{declared.MonthAnswer.MonthAnswer, declared.MonthAnswer.the-variants.Refused, Month.monthOf}
 
 -- the bytes before the flows
 abbrev pub headerBytes : ℕ
 headerBytes = 10
+
+-- the bytes of the longest month: for each of its hours a flow, a content and a state
+abbrev pub longestBytes : ℕ
+longestBytes = headerBytes + (floatBytes + floatBytes + 1) * mostHours
 
 -- the input has a mark, and it is not CM
 abbrev pub isOtherMark : List ℕ → Bool

@@ -17,6 +17,9 @@ const NO_MONTH: u8 = 10;
 // The bytes before the first flow.
 const HEADER: usize = 10;
 
+// The bytes of the longest month (`longestBytes`): for each of its hours a flow, a content and a state.
+pub const LONGEST: usize = HEADER + (FLOAT + FLOAT + 1) * series::MOST_HOURS;
+
 // Where the efficiency stands.
 const EFFICIENCY_AT: usize = 2;
 

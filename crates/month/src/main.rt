@@ -1,24 +1,45 @@
 // One meter month from standard input, to one line on standard output: `destroyed N`, or `refused N at P`.
 //
-// The input is read until it ends, or until it is longer than any month: what would follow changes nothing (`proofs/Long.antt` of `format`). A read that
-// fails is not taken for the input's end: it is told on standard error, and no figure is printed.
+// The input is read until it ends, or until it is longer than the longest month: what would follow changes nothing (`proofs/Long.antt` of `format`). A read
+// that fails is not taken for the input's end: it is told on standard error, and no figure is printed.
+ghost use Prim.Native.Nat.{_<_};
 ghost use lib.ListN.{length};
 ghost use Rattle.input.specs.Got.{Room};
+ghost use Rattle.format.specs.Format.{longestBytes};
+ghost use Rattle.month.specs.Input.{Comes};
 use input::Got;
 use libc::STDOUT_FILENO;
 use meter::MonthAnswer;
 
 mod line;
 
-// One byte more than the longest month has.
-const BUFFER: usize = 6_707;
+// One byte more than the longest month has, so that a longer input shows.
+const BUFFER: usize = format::LONGEST + 1;
+
+// What standard input came to: the answer for its month, or that a read failed.
+enum Outcome {
+    Stated(MonthAnswer),
+    Failed,
+}
 
 fn main() {
     let mut buffer = [0u8; BUFFER];
-    let input = read_input(&mut buffer);
-    match input {
-        Got::Bytes(count) => print(format::stated(&buffer[..count])),
-        Got::Failed => os::fail(b"standard input"),
+    let outcome = state_input(&mut buffer);
+    match outcome {
+        Outcome::Stated(answer) => print(answer),
+        Outcome::Failed => os::fail(b"standard input"),
+    }
+}
+
+// The month that standard input holds, stated or refused.
+fn state_input(buffer: &mut [u8]) -> Outcome
+    requires { ⌜ longestBytes < length (now buffer) ⌝ }
+    ensures { λ r. ⌜ Comes (length (now (buffer .entry))) r ⌝ }
+{
+    let got = read_input(buffer);
+    match got {
+        Got::Bytes(count) => Outcome::Stated(format::stated(&buffer[..count])),
+        Got::Failed => Outcome::Failed,
     }
 }
 
