@@ -14,5 +14,4 @@ pub mod program;
 pub mod reading;
 pub mod record;
 pub mod refusal;
-pub mod text;
 pub mod year;

@@ -4,11 +4,11 @@ use std::io::{self, Write};
 use std::os::fd::AsFd;
 use std::process::ExitCode;
 
-use second::program::{self, Failure};
+use second::program::{self, Unreadable};
 
-const USAGE: &str = "usage: second years | months | month | records to-bytes | records to-text";
+const USAGE: &str = "usage: second years | months | month";
 
-type Program = fn(File) -> Result<Vec<u8>, Failure>;
+type Program = fn(File) -> Result<Vec<u8>, Unreadable>;
 
 fn main() -> ExitCode {
     let arguments: Vec<String> = env::args_os()
@@ -20,8 +20,6 @@ fn main() -> ExitCode {
         ["years"] => program::years,
         ["months"] => program::months,
         ["month"] => program::month,
-        ["records", "to-bytes"] => program::records_to_bytes,
-        ["records", "to-text"] => program::records_to_text,
         _ => return failed(USAGE),
     };
     match run(program) {
@@ -31,8 +29,8 @@ fn main() -> ExitCode {
 }
 
 fn run(program: Program) -> Result<(), String> {
-    let input = unmasked(io::stdin()).map_err(|error| Failure::Input(error).to_string())?;
-    let output = program(input).map_err(|failure| failure.to_string())?;
+    let input = unmasked(io::stdin()).map_err(|error| Unreadable(error).to_string())?;
+    let output = program(input).map_err(|unreadable| unreadable.to_string())?;
     unmasked(io::stdout())
         .and_then(|mut stdout| stdout.write_all(&output))
         .map_err(|error| format!("the output cannot be written: {error}"))

@@ -9,7 +9,6 @@ use crate::meter;
 use crate::months::{lagoon_months, COLUMNS};
 use crate::record::RECORD_BYTES;
 use crate::refusal::{Reason, Refusal};
-use crate::text;
 use crate::year::year;
 
 const LAST_YEAR: u32 = 10;
@@ -22,41 +21,35 @@ const MONTH_BYTES_READ: u64 = MONTH_HEADER_BYTES as u64 + u16::MAX as u64 * 9 + 
 
 /// What keeps a program from giving any answer. A refusal is an answer.
 #[derive(Debug)]
-pub enum Failure {
-    Input(io::Error),
-    Text(text::LineError),
-}
+pub struct Unreadable(pub io::Error);
 
-impl fmt::Display for Failure {
+impl fmt::Display for Unreadable {
     fn fmt(&self, f: &mut fmt::Formatter<'_>) -> fmt::Result {
-        match self {
-            Failure::Input(error) => write!(f, "the input cannot be read: {error}"),
-            Failure::Text(error) => write!(f, "{error}"),
-        }
+        write!(f, "the input cannot be read: {}", self.0)
     }
 }
 
-impl From<io::Error> for Failure {
-    fn from(error: io::Error) -> Failure {
-        Failure::Input(error)
+impl From<io::Error> for Unreadable {
+    fn from(error: io::Error) -> Unreadable {
+        Unreadable(error)
     }
 }
 
 /// Records to years, as paper 01's year program. Reading stops at a posting
 /// refusal, which is then the only output.
-pub fn years(input: impl Read) -> Result<Vec<u8>, Failure> {
+pub fn years(input: impl Read) -> Result<Vec<u8>, Unreadable> {
     of_book(input, all_years)
 }
 
 /// Records to the months of the anaerobic lines, under a line that names the
 /// columns.
-pub fn months(input: impl Read) -> Result<Vec<u8>, Failure> {
+pub fn months(input: impl Read) -> Result<Vec<u8>, Unreadable> {
     of_book(input, all_months)
 }
 
 /// What is told of the book that the records make, or the refusal of the first
 /// that is refused.
-fn of_book(input: impl Read, told: fn(&Book) -> String) -> Result<Vec<u8>, Failure> {
+fn of_book(input: impl Read, told: fn(&Book) -> String) -> Result<Vec<u8>, Unreadable> {
     let mut input = BufReader::new(input);
     let mut book = Box::new(Book::empty());
     let mut bytes = [0; RECORD_BYTES];
@@ -109,7 +102,7 @@ fn read_record(input: &mut impl Read, bytes: &mut [u8; RECORD_BYTES]) -> io::Res
 }
 
 /// One meter month to its destroyed grams.
-pub fn month(input: impl Read) -> Result<Vec<u8>, Failure> {
+pub fn month(input: impl Read) -> Result<Vec<u8>, Unreadable> {
     let mut bytes = Vec::new();
     input.take(MONTH_BYTES_READ).read_to_end(&mut bytes)?;
     let answer = match lent_month(&bytes) {
@@ -145,16 +138,4 @@ fn floats(bytes: &[u8]) -> Vec<f32> {
         .chunks_exact(4)
         .map(|bits| f32::from_le_bytes([bits[0], bits[1], bits[2], bits[3]]))
         .collect()
-}
-
-pub fn records_to_bytes(mut input: impl Read) -> Result<Vec<u8>, Failure> {
-    let mut lines = Vec::new();
-    input.read_to_end(&mut lines)?;
-    text::to_bytes(&lines).map_err(Failure::Text)
-}
-
-pub fn records_to_text(mut input: impl Read) -> Result<Vec<u8>, Failure> {
-    let mut bytes = Vec::new();
-    input.read_to_end(&mut bytes)?;
-    Ok(text::to_text(&bytes).into_bytes())
 }

@@ -48,25 +48,9 @@ fn answers_go_to_standard_output() {
     assert_answered(run(&["years"], b""), b"refused 8 at 0\n");
     assert_answered(run(&["years"], b"torn"), b"refused 1 at 0\n");
     assert_answered(run(&["month"], b""), b"refused 10 at 0\n");
-    assert_answered(run(&["records", "to-text"], &dr(1, 6)), b"DR 1 6\n");
-    assert_answered(run(&["records", "to-bytes"], b"DR 1 6\n"), &dr(1, 6));
 }
 
-#[test]
-fn a_text_error_leaves_standard_output_empty() {
-    let output = run(&["records", "to-bytes"], b"DR 1 6\nDR 1\n");
-    assert_failed(
-        output,
-        "second: line 2: DR takes 2 numbers (line, month), not 1",
-    );
-}
-
-const ALL: [&[&str]; 4] = [
-    &["years"],
-    &["month"],
-    &["records", "to-bytes"],
-    &["records", "to-text"],
-];
+const ALL: [&[&str]; 3] = [&["years"], &["months"], &["month"]];
 
 #[test]
 fn an_input_that_cannot_be_read() {
@@ -93,15 +77,11 @@ fn an_output_that_cannot_be_written() {
 
 #[test]
 fn other_arguments_are_told_the_usage() {
-    let wrong: [&[&str]; 6] = [
-        &[],
-        &["year"],
-        &["years", "1"],
-        &["records"],
-        &["records", "to-year"],
-        &["records", "to-text", "x"],
-    ];
+    let wrong: [&[&str]; 4] = [&[], &["year"], &["years", "1"], &["month", "x"]];
     for arguments in wrong {
-        assert_failed(run(arguments, b""), "second: usage: second years | month");
+        assert_failed(
+            run(arguments, b""),
+            "second: usage: second years | months | month",
+        );
     }
 }

@@ -5,7 +5,7 @@ mod common;
 use std::io::{self, Read};
 
 use common::*;
-use second::program::{month, records_to_bytes, records_to_text, years};
+use second::program::{month, years};
 
 fn years_of(input: &[u8]) -> String {
     String::from_utf8(years(input).unwrap()).unwrap()
@@ -109,8 +109,6 @@ fn a_read_error_is_not_the_end_of_input() {
     for length in [0, 1, 2, 9, 10, 400, steady.len()] {
         assert!(month(failing(&steady[..length])).is_err());
     }
-    assert!(records_to_text(failing(&whole)).is_err());
-    assert!(records_to_bytes(failing(b"DR 1 6\n")).is_err());
 }
 
 #[test]
@@ -190,11 +188,4 @@ fn the_months_own_refusals() {
     let efficient = |efficiency| month_input(efficiency, &flows, &[60.0; 696], &[0; 696]);
     assert_eq!(month_of(&efficient(10_001)), "refused 4 at 0\n");
     assert_eq!(month_of(&efficient(10_000)), "refused 11 at 695\n");
-}
-
-#[test]
-fn records_both_ways() {
-    let whole = sample().concat();
-    let text = records_to_text(&whole[..]).unwrap();
-    assert_eq!(records_to_bytes(&text[..]).unwrap(), whole);
 }
