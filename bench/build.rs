@@ -1,4 +1,4 @@
-//! Links the static library that `rt staticlib cabinet` writes.
+//! Says where the static library stands that `tests/staticlib` builds, for src/linked.rs.
 
 use std::path::Path;
 
@@ -7,10 +7,10 @@ fn main() {
         .parent()
         .expect("bench stands in the project");
     let folder = root.join("target").join("staticlib");
+    println!("cargo:rerun-if-changed=build.rs");
     println!(
         "cargo:rerun-if-changed={}",
         folder.join("libcabinet.a").display()
     );
     println!("cargo:rustc-link-search=native={}", folder.display());
-    println!("cargo:rustc-link-lib=static=cabinet");
 }

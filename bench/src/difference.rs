@@ -1,20 +1,15 @@
-//! Both sides on one input: nothing where they agree, else what differs.
-
-use std::collections::BTreeMap;
+//! Both sides on one input: what they answer where they agree, else what differs.
 
 use second::book::Book as PlainBook;
 use second::refusal::Refusal;
 use second::year::YearFigures;
 
-use crate::cabinet;
+use crate::book::RECORD_BYTES;
+use crate::cabinet::{self, BOOK_BYTES};
+use crate::digest;
+use crate::driver::{Changed, Delivered, Delivery, Driver, Patterns, Told};
 use crate::hours::Hours;
-use crate::streams::pieces;
-
-/// The years that are asked for: those of the period, and some that are none.
-const YEARS: [u32; 13] = [0, 1, 2, 3, 4, 5, 6, 7, 8, 9, 10, 11, u32::MAX];
-
-/// How often each number was answered; 0 is no refusal.
-pub type Answers = BTreeMap<u64, u64>;
+use crate::slots::Slots;
 
 /// What differs, and an input that shows it to the programs.
 pub struct Difference {
@@ -22,94 +17,175 @@ pub struct Difference {
     pub input: Vec<u8>,
 }
 
-/// Two books, which are made anew for each stream.
-pub struct Books {
-    proved: cabinet::Book,
+/// The memory that bench/driver.c lends: what it holds before, and how much is around a book and in all.
+const UNTOUCHED: u8 = 0xa5;
+const AROUND_A_BOOK: usize = BOOK_BYTES + 2 * RECORD_BYTES;
+const LENT_BYTES: usize = 2 * AROUND_A_BOOK;
+
+/// The proved library by its driver; the second program's book, and the bytes that the proved one should then have.
+pub struct Sides<'a> {
+    driver: Driver,
+    slots: &'a Slots,
     plain: Box<PlainBook>,
+    lent: Vec<u8>,
 }
 
-impl Default for Books {
-    fn default() -> Books {
-        Books {
-            proved: cabinet::Book::empty(),
+impl Sides<'_> {
+    pub fn new(driver: Driver, slots: &Slots) -> Sides<'_> {
+        Sides {
+            driver,
+            slots,
             plain: Box::new(PlainBook::empty()),
+            lent: vec![UNTOUCHED; AROUND_A_BOOK],
         }
     }
-}
 
-impl Books {
-    pub fn clear(&mut self) {
-        self.proved.clear();
+    /// Posts a delivery on both sides, and asks both for its years. The input
+    /// of a difference has the records taken before, so that reading gets to it.
+    pub fn deliver(&mut self, delivery: &Delivery) -> Result<Delivered, Difference> {
+        let mut taken = Vec::new();
+        let delivered = self.driver.deliver(delivery).map_err(|what| Difference {
+            what,
+            input: delivery.pieces.concat(),
+        })?;
+        self.clear(delivery.offset);
+        for (piece, proved) in delivery.pieces.iter().zip(&delivered.records) {
+            let plain = self.post(delivery, piece);
+            if *proved != plain {
+                return Err(Difference {
+                    what: format!("posting {piece:02x?}: proved {proved:?}, second {plain:?}"),
+                    input: [&taken[..], piece].concat(),
+                });
+            }
+            if plain.posted.number == 0 {
+                taken.extend(*piece);
+            }
+        }
+        match self.after(delivery, &delivered) {
+            Some(what) => Err(Difference { what, input: taken }),
+            None => Ok(delivered),
+        }
+    }
+
+    fn clear(&mut self, offset: usize) {
         *self.plain = PlainBook::empty();
+        self.lent.fill(UNTOUCHED);
+        self.lent[offset..offset + BOOK_BYTES].fill(0);
     }
 
-    pub fn proved(&self) -> &cabinet::Book {
-        &self.proved
-    }
-
-    /// Posts a record to both.
-    pub fn post(&mut self, record: &[u8]) -> Result<cabinet::Posted, String> {
-        let proved = self.proved.post(record);
-        let plain = match self.plain.post(record) {
-            Ok(()) => cabinet::Posted {
-                number: 0,
-                place: 0,
-            },
-            Err(refusal) => cabinet::Posted {
-                number: refusal.number().into(),
-                place: refusal.place.into(),
-            },
+    /// Posts a record to the second program's book, and to the bytes where it is taken.
+    fn post(&mut self, delivery: &Delivery, piece: &[u8]) -> Told {
+        let (posted, changed) = match self.plain.post(piece) {
+            Ok(()) => {
+                let slot = self.slots.of(piece);
+                let at = delivery.offset + RECORD_BYTES * slot;
+                self.lent[at..at + RECORD_BYTES].copy_from_slice(piece);
+                (
+                    cabinet::Posted {
+                        number: 0,
+                        place: 0,
+                    },
+                    Changed {
+                        slots: 1,
+                        first: slot as u64,
+                    },
+                )
+            }
+            Err(refusal) => (
+                cabinet::Posted {
+                    number: refusal.number().into(),
+                    place: refusal.place.into(),
+                },
+                Changed { slots: 0, first: 0 },
+            ),
         };
+        Told {
+            posted,
+            changed: delivery.watched.then_some(changed),
+        }
+    }
+
+    /// What differs after the records: in a year, or in the bytes of the book and around it.
+    fn after(&self, delivery: &Delivery, delivered: &Delivered) -> Option<String> {
+        for (&year, proved) in delivery.years.iter().zip(&delivered.years) {
+            let plain = year_of(plain_year(&self.plain, year));
+            if *proved != plain {
+                return Some(format!("year {year}: proved {proved:?}, second {plain:?}"));
+            }
+        }
+        if delivered.digest != digest::of_memory(&self.lent) {
+            return Some("the book has other bytes than the records that it took".to_string());
+        }
+        None
+    }
+
+    /// A meter month on both sides.
+    pub fn month(&mut self, hours: &Hours, efficiency: u32) -> Result<cabinet::Month, String> {
+        let Hours {
+            flows,
+            contents,
+            states,
+            ..
+        } = hours;
+        let proved = self.driver.month(flows, contents, states, efficiency)?;
+        let plain = plain_month(hours, efficiency);
         if proved == plain {
             Ok(proved)
         } else {
             Err(format!(
-                "posting {record:02x?}: proved {proved:?}, second {plain:?}"
+                "efficiency {efficiency}: proved {proved:?}, second {plain:?}"
             ))
         }
     }
 
-    /// Asks both for a year.
-    pub fn year(&self, year: u32) -> Result<cabinet::Year, String> {
-        let proved = self.proved.year(year.into());
-        let plain = year_of(second::year::year(&self.plain, year));
-        if proved == plain {
-            Ok(proved)
-        } else {
-            Err(format!("year {year}: proved {proved:?}, second {plain:?}"))
-        }
-    }
-
-    /// Asks both for every year.
-    pub fn years(&self) -> Result<Answers, String> {
-        let mut answers = Answers::new();
-        for year in YEARS {
-            *answers.entry(self.year(year)?.number).or_default() += 1;
-        }
-        Ok(answers)
-    }
-
-    /// Posts a stream to both, past any refusals, and asks for the years. The
-    /// input of a difference has the records taken before, so that reading gets to it.
-    pub fn stream(&mut self, stream: &[u8]) -> Result<[Answers; 2], Difference> {
-        self.clear();
-        let mut taken = Vec::new();
-        let mut records = Answers::new();
-        for record in pieces(stream) {
-            let posted = self.post(record).map_err(|what| Difference {
-                what,
-                input: [&taken[..], record].concat(),
-            })?;
-            *records.entry(posted.number).or_default() += 1;
-            if posted.number == 0 {
-                taken.extend(record);
+    /// Readings on both sides, as flows and as contents: by their digests, and one by one where those differ.
+    pub fn readings(&mut self, patterns: Patterns) -> Result<(), String> {
+        let mut digest = 0u64;
+        for pattern in patterns.each() {
+            for (place, reading) in (2 * u64::from(pattern)..).zip(plain_reading(pattern)) {
+                let word = 2 * reading.whole + u64::from(reading.taken);
+                digest = digest.wrapping_add(digest::mixed(place, word));
             }
         }
-        let years = self
-            .years()
-            .map_err(|what| Difference { what, input: taken })?;
-        Ok([records, years])
+        if self.driver.readings(patterns)? == digest {
+            return Ok(());
+        }
+        let each = self.driver.each_reading(patterns)?;
+        for (pattern, proved) in patterns.each().zip(each) {
+            let plain = plain_reading(pattern);
+            if proved != plain {
+                return Err(format!(
+                    "pattern {pattern:#010x} as flow and content: proved {proved:?}, second {plain:?}"
+                ));
+            }
+        }
+        Err(format!(
+            "the digests of {} patterns from {:#010x} on differ, and no pattern does",
+            patterns.count, patterns.first
+        ))
     }
+
+    /// Memory of any size, of which only a book's is made one.
+    pub fn empty(&mut self, offset: usize, bytes: usize) -> Result<(), String> {
+        let mut lent = vec![UNTOUCHED; LENT_BYTES];
+        let is_a_book = bytes == BOOK_BYTES;
+        if is_a_book {
+            lent[offset..offset + bytes].fill(0);
+        }
+        let (emptied, digest) = self.driver.empty(offset, bytes)?;
+        if emptied == is_a_book && digest == digest::of_memory(&lent) {
+            Ok(())
+        } else {
+            Err(format!(
+                "{bytes} bytes at offset {offset}: said to be made a book: {emptied}; or other bytes were written"
+            ))
+        }
+    }
+}
+
+/// The second program takes 32 bits: a year past those is no year of the ten either.
+fn plain_year(book: &PlainBook, year: u64) -> Result<YearFigures, Refusal> {
+    second::year::year(book, year.try_into().unwrap_or(u32::MAX))
 }
 
 fn year_of(answer: Result<YearFigures, Refusal>) -> cabinet::Year {
@@ -150,16 +226,10 @@ fn year_of(answer: Result<YearFigures, Refusal>) -> cabinet::Year {
     }
 }
 
-/// A meter month on both sides.
-pub fn month(hours: &Hours) -> Result<cabinet::Month, String> {
-    let Hours {
-        flows,
-        contents,
-        states,
-        efficiency,
-    } = hours;
-    let proved = cabinet::month(flows, contents, states, (*efficiency).into());
-    let plain = match second::meter::month(flows, contents, states, *efficiency) {
+/// The second program takes 16 bits: an efficiency past those is above 10,000 too.
+fn plain_month(hours: &Hours, efficiency: u32) -> cabinet::Month {
+    let efficiency = efficiency.try_into().unwrap_or(u16::MAX);
+    match second::meter::month(&hours.flows, &hours.contents, &hours.states, efficiency) {
         Ok(destroyed) => cabinet::Month {
             number: 0,
             place: 0,
@@ -170,38 +240,18 @@ pub fn month(hours: &Hours) -> Result<cabinet::Month, String> {
             place: refusal.place.into(),
             destroyed: 0,
         },
-    };
-    if proved == plain {
-        Ok(proved)
-    } else {
-        Err(format!("proved {proved:?}, second {plain:?}"))
     }
 }
 
-/// One reading on both sides, as a flow and as a content.
-pub fn reading(bits: u32) -> Result<(), String> {
-    let float = f32::from_bits(bits);
-    let flow = (
-        cabinet::litres(float),
-        of_plain(second::reading::litres(float)),
-    );
-    let content = (
-        cabinet::hundredths(float),
-        of_plain(second::reading::hundredths(float)),
-    );
-    for (name, (proved, plain)) in [("flow", flow), ("content", content)] {
-        if proved != plain {
-            return Err(format!(
-                "{name} of pattern {bits:#010x}: proved {proved:?}, second {plain:?}"
-            ));
-        }
-    }
-    Ok(())
-}
-
-fn of_plain(whole: Option<u32>) -> cabinet::Reading {
-    cabinet::Reading {
+/// A pattern as a flow and as a content.
+fn plain_reading(pattern: u32) -> [cabinet::Reading; 2] {
+    let value = f32::from_bits(pattern);
+    let wholes = [
+        second::reading::litres(value),
+        second::reading::hundredths(value),
+    ];
+    wholes.map(|whole| cabinet::Reading {
         taken: whole.is_some(),
         whole: whole.unwrap_or(0).into(),
-    }
+    })
 }

@@ -9,9 +9,9 @@ use std::path::Path;
 use std::process::{Command, ExitCode, Stdio};
 use std::time::Instant;
 
-use bench::book::{record, Record, DR, HD, LINES, LN, MONTHS, MT, PE, TP, YR};
-use bench::book::{CATEGORIES, DEVICES};
-use bench::cabinet;
+use bench::book::Record;
+use bench::full::full_book;
+use bench::linked;
 use bench::random::Random;
 use second::book::Book as PlainBook;
 
@@ -64,7 +64,7 @@ fn timed(calls: usize, call: &mut impl FnMut()) -> f64 {
 
 /// Into books that are emptied outside the time.
 fn posting(what: &str, records: &[Record]) {
-    let mut proved = cabinet::Book::empty();
+    let mut proved = linked::Book::empty();
     let mut plain = Box::new(PlainBook::empty());
     let (mut proved_least, mut plain_least) = (f64::MAX, f64::MAX);
     for _ in 0..ROUNDS {
@@ -88,7 +88,7 @@ fn posting(what: &str, records: &[Record]) {
 }
 
 fn years(records: &[Record]) {
-    let mut proved = cabinet::Book::empty();
+    let mut proved = linked::Book::empty();
     let mut plain = Box::new(PlainBook::empty());
     for record in records {
         assert_eq!(proved.post(record).number, 0);
@@ -126,7 +126,7 @@ fn month() {
     let (proved, plain) = least(
         50,
         || {
-            black_box(cabinet::month(
+            black_box(linked::month(
                 black_box(&flows),
                 black_box(&contents),
                 black_box(&states),
@@ -196,35 +196,4 @@ fn process(command: &mut Command, input: &Path) -> Result<f64, String> {
 fn drained_at_times(records: &[Record]) -> Vec<Record> {
     let drain = |record: &&Record| record[..2] != *b"DR" || (record[2] + record[3]) % 6 == 0;
     records.iter().filter(drain).copied().collect()
-}
-
-/// Every slot filled.
-fn full_book() -> Vec<Record> {
-    let mut records = vec![record(YR, &[2011, 1])];
-    for line in 1..=LINES {
-        let category = (line - 1) % CATEGORIES + 1;
-        records.push(record(LN, &[line, 0, category, 1_000, 6_000, 5_000, 24, 0]));
-    }
-    for category in 1..=CATEGORIES {
-        for month in 1..=MONTHS {
-            records.push(record(HD, &[category, month, 100 + 10 * category + month]));
-        }
-    }
-    for month in 1..=MONTHS {
-        records.push(record(TP, &[month, month * 37 % 400 - 50]));
-    }
-    for line in 1..=LINES {
-        for month in 1..=MONTHS {
-            records.push(record(DR, &[line, month]));
-        }
-    }
-    for month in 1..=MONTHS {
-        records.push(record(PE, &[month, 1_000, 0, 500]));
-    }
-    for month in 1..=MONTHS {
-        for device in 1..=DEVICES {
-            records.push(record(MT, &[month, device, 2_000_000]));
-        }
-    }
-    records
 }
