@@ -5,10 +5,11 @@
 -- Assumes nothing.
 use Prim.Native.Nat.{ℕ, zero, suc, _+_, _≤_}
 use mathlib.Core.Bool.{Bool, true, false}
-use mathlib.Core.Path.{_≡_}
-use native.Mathlib.Nat.{le-dest}
+use mathlib.Core.Path.{_≡_, refl}
+use native.Mathlib.Nat.{add-suc, le-dest}
 use native.Mathlib.Omega.{arith}
 use Rattle.lagoon.specs.declared.Month.{Month}
+use Rattle.lagoon.specs.declared.Standing.{Standing}
 use Rattle.run.specs.declared.Totals.{Totals}
 use Rattle.factor.specs.Rule.{million}
 use Rattle.lagoon.specs.Month.{emptyOf, outcomeOf}
@@ -19,11 +20,11 @@ use Rattle.run.proofs.Same.{at, shared}
 use Rattle.run.proofs.Conserved.{conserved}
 
 -- what each month keeps of the whole beside its parts: it has removed and carries no more than they, and less by at most a gram a month
-record Beside (whole first second : Totals) (n : ℕ) : Type 0 where
-  entered : whole .entered .0 ≡ first .entered .0 + second .entered .0
-  removed : whole .removed .0 ≤ first .removed .0 + second .removed .0
-  carried : whole .standing .0 .0 ≤ first .standing .0 .0 + second .standing .0 .0
-  short :
+pub record Beside (whole first second : Totals) (n : ℕ) : Type 0 where
+  pub entered : whole .entered .0 ≡ first .entered .0 + second .entered .0
+  pub removed : whole .removed .0 ≤ first .removed .0 + second .removed .0
+  pub carried : whole .standing .0 .0 ≤ first .standing .0 .0 + second .standing .0 .0
+  pub short :
       first .removed .0 + second .removed .0 + first .standing .0 .0 + second .standing .0 .0 ≤
       whole .removed .0 + whole .standing .0 .0 + n
 
@@ -38,16 +39,17 @@ module _ (whole first second : Totals) (n e a b factor : ℕ) (adds : a + b ≡ 
       let split = left-split factor (a + first .standing .0 .0) (b + second .standing .0 .0) (e + whole .standing .0 .0) (gap .0) small (omega arith) in
       elim drained [ true ↦ omega arith | false ↦ omega arith ]
 
-module _ (whole first second : ℕ → Month) where
-  beside :
+-- from any standings of which the parts' are together so many grams more than the whole's
+module _ (whole first second : ℕ → Month) (from from-1 from-2 : Standing) (more : ℕ) (stands : from-1 .0 .0 + from-2 .0 .0 ≡ from .0 .0 + more) where
+  pub beside :
       (n : ℕ) → Through n (λ m. AddsUp (whole m) (first m) (second m)) → Through n (λ m. whole m .factor ≤ million) →
-      Beside (runOf whole n) (runOf first n) (runOf second n) n
+      Beside (runFrom from whole n) (runFrom from-1 first n) (runFrom from-2 second n) (more + n)
   unfolding runFrom
   beside zero adds small = omega arith
   beside (suc n) adds small =
       let now = adds (suc n) (omega arith) (omega arith) in
-      rw (shared (first (suc n)) (whole (suc n)) (now .first-same), shared (second (suc n)) (whole (suc n)) (now .second-same))
-      (with-beside (runOf whole n) (runOf first n) (runOf second n) n (whole (suc n) .entered .0) (first (suc n) .entered .0)
+      rw (add-suc more n, shared (first (suc n)) (whole (suc n)) (now .first-same), shared (second (suc n)) (whole (suc n)) (now .second-same))
+      (with-beside (runFrom from whole n) (runFrom from-1 first n) (runFrom from-2 second n) (more + n) (whole (suc n) .entered .0) (first (suc n) .entered .0)
       (second (suc n) .entered .0) (whole (suc n) .factor) (now .entered) (small (suc n) (omega arith) (omega arith))
       (beside n (λ m low high. adds m low (omega arith)) (λ m low high. small m low (omega arith)))
       (whole (suc n) .drained))
@@ -58,7 +60,7 @@ pub entered-adds-up :
     Through n (λ m. AddsUp (whole m) (first m) (second m)) →
     Through n (λ m. whole m .factor ≤ million) →
     runOf whole n .entered .0 ≡ runOf first n .entered .0 + runOf second n .entered .0
-entered-adds-up whole first second n adds small = beside whole first second n adds small .entered
+entered-adds-up whole first second n adds small = beside whole first second emptyOf emptyOf emptyOf 0 refl n adds small .entered
 
 pub demand-3 :
     (whole first second : ℕ → Month) (n : ℕ) →
@@ -67,7 +69,7 @@ pub demand-3 :
 demand-3 whole first second n adds small =
     omega (
       arith,
-      beside whole first second n adds small,
+      beside whole first second emptyOf emptyOf emptyOf 0 refl n adds small,
       conserved emptyOf whole n small,
       conserved emptyOf first n (λ m low high. rw (adds m low high .first-same .factor) (small m low high)),
       conserved emptyOf second n (λ m low high. rw (adds m low high .second-same .factor) (small m low high)),

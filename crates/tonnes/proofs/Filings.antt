@@ -2,12 +2,12 @@
 -- one filing is below 0 nothing bounds what the two are credited above the one, since credited tonnes are never below 0: the last example.
 -- Assumes nothing.
 use mathlib.Core.Path.{_≡_, refl}
-use Prim.Native.Nat.{_+_}
+use Prim.Native.Nat.{ℕ, _+_, _*_, _≤_}
 use native.Mathlib.Omega.{arith}
-use lib.IntN.{ℤ, pos, negℤ, _+ℤ_}
+use lib.IntN.{ℤ, pos, negsuc, negℤ, _+ℤ_}
 use lib.Signed.{_≤ℤ_}
 use Rattle.tonnes.specs.Tonnes.{netOf, creditedOf}
-use Rattle.tonnes.proofs.Nearest.{sum-is, ordered, near}
+use Rattle.tonnes.proofs.Nearest.{above, below, sum-is, negated, ordered, Near, near}
 
 pub two-filings :
     (a b : ℤ) →
@@ -30,8 +30,20 @@ one-more = refl
 pub one-less : netOf (pos 500000 +ℤ pos 500000) ≡ netOf (pos 500000) +ℤ netOf (pos 500000) +ℤ pos 1
 one-less = refl
 
--- a filing of a thousand tonnes below 0 and one of a thousand above: credited a thousand, and of both nothing
+-- a total at or below 0 is credited nothing
+none-credited : (t : ℤ) → above t ≤ below t → creditedOf (netOf t) ≡ 0
+none-credited t low = go (netOf t) (near t)
+  where
+    go : (n : ℤ) → Near t n → creditedOf n ≡ 0
+    go (pos n) is = omega arith
+    go (negsuc n) is = refl
+
+-- a filing of any number of tonnes below 0 and one of as many above: credited so many, and of both nothing
 pub below-zero :
-    (creditedOf (netOf (negℤ (pos 1000000000))) + creditedOf (netOf (pos 1000000000)) ≡ 1000) ×
-    (creditedOf (netOf (negℤ (pos 1000000000) +ℤ pos 1000000000)) ≡ 0)
-below-zero = (refl, refl)
+    (tonnes : ℕ) → let grams = pos (tonnes * 1000000) in
+    (creditedOf (netOf (negℤ grams)) + creditedOf (netOf grams) ≡ tonnes) × (creditedOf (netOf (negℤ grams +ℤ grams)) ≡ 0)
+below-zero tonnes =
+    let grams = tonnes * 1000000 in
+    let minus = negated grams in
+    let both = sum-is (negℤ (pos grams)) (pos grams) in
+    (omega (arith, none-credited (negℤ (pos grams)) (omega arith)), none-credited (negℤ (pos grams) +ℤ pos grams) (omega arith))

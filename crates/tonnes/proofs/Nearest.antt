@@ -1,11 +1,11 @@
 -- What `netOf` says, in the paper's words: the total lies above half a tonne below net, and at most half a tonne above it.
 -- Assumes nothing.
-use Prim.Native.Nat.{ℕ, suc, _+_, _*_, _≤_, _<_}
-use mathlib.Core.Path.{_≡_}
+use Prim.Native.Nat.{ℕ, zero, suc, _+_, _*_, _≤_, _<_}
+use mathlib.Core.Path.{_≡_, refl}
 use native.Mathlib.Omega.{arith}
 use native.Mathlib.Decide.{decLt}
 use lib.Dec.{le→leb}
-use lib.IntN.{ℤ, pos, negsuc, _+ℤ_, subℕ}
+use lib.IntN.{ℤ, pos, negsuc, negℤ, _+ℤ_, subℕ}
 use lib.Signed.{_≤ℤ_}
 use borrow.Author.Tests.{lt-ltb, le-ltb}
 use Rattle.tonnes.specs.Tonnes.{netOf}
@@ -31,6 +31,10 @@ sum-is (pos a) (pos b) = omega arith
 sum-is (pos a) (negsuc b) = omega (arith, less-is a (suc b))
 sum-is (negsuc a) (pos b) = omega (arith, less-is b (suc a))
 sum-is (negsuc a) (negsuc b) = omega arith
+
+pub negated : (n : ℕ) → (above (negℤ (pos n)) ≡ 0) × (below (negℤ (pos n)) ≡ n)
+negated zero = (refl, refl)
+negated (suc n) = (refl, refl)
 
 pub ordered : (a b : ℤ) → above a + below b ≤ above b + below a → a ≤ℤ b
 ordered (pos a) (pos b) h = record { le = le→leb a b (omega arith) }
