@@ -4,6 +4,4 @@ pub mod Conserved
 pub mod Runs
 pub mod Same
 pub mod Demand3
-pub mod More
 pub mod Years
-pub mod Splitting

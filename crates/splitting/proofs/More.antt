@@ -1,16 +1,17 @@
--- A lagoon into which more enters each month, at the same temperatures and drain marks, degrades more, removes more and carries more on.
+-- A lagoon in which no less stands and into which no less enters each month, at the same temperatures and drain marks, degrades, removes and carries on no less.
 -- Assumes nothing.
 use Prim.Native.Nat.{ℕ, zero, suc, _+_, _≤_}
 use mathlib.Core.Bool.{Bool, true, false}
 use native.Mathlib.Omega.{arith}
 use Rattle.lagoon.specs.declared.Month.{Month}
+use Rattle.lagoon.specs.declared.Standing.{Standing}
 use Rattle.run.specs.declared.Totals.{Totals}
 use Rattle.factor.specs.Rule.{million}
 use Rattle.lagoon.specs.Month.{outcomeOf}
-use Rattle.run.specs.Run.{withOf, runFrom, runOf}
+use Rattle.run.specs.Run.{withOf, runFrom}
 use Rattle.run.proofs.Parts.{Through, SameLagoon}
 use Rattle.lagoon.proofs.Left.{left-more}
 use Rattle.run.proofs.Same.{at, shared}
 
 pub record EntersMore (less more : Month) : Type 0 where
   pub entered : less .entered .0 ≤ more .entered .0
@@ -29,16 +30,17 @@ module _ (less more : Totals) (a b factor : ℕ) (enters : a ≤ b) (small : fac
       let grows = left-more factor (a + less .standing .0 .0) (b + more .standing .0 .0) small (omega arith) in
       elim drained [ true ↦ omega arith | false ↦ omega arith ]
 
-module _ (less more : ℕ → Month) where
+-- from two standings, of which the first is no more than the second
+module _ (less more : ℕ → Month) (low high : Standing) (stands : low .0 .0 ≤ high .0 .0) where
   pub more-degrades :
       (n : ℕ) → Through n (λ m. EntersMore (less m) (more m)) → Through n (λ m. more m .factor ≤ million) →
-      More (runOf less n) (runOf more n)
+      More (runFrom low less n) (runFrom high more n)
   unfolding runFrom
   more-degrades zero enters small = omega arith
   more-degrades (suc n) enters small =
       let now = enters (suc n) (omega arith) (omega arith) in
       rw (shared (less (suc n)) (more (suc n)) (now .same))
-      (with-more (runOf less n) (runOf more n) (less (suc n) .entered .0) (more (suc n) .entered .0) (more (suc n) .factor)
+      (with-more (runFrom low less n) (runFrom high more n) (less (suc n) .entered .0) (more (suc n) .entered .0) (more (suc n) .factor)
       (now .entered) (small (suc n) (omega arith) (omega arith))
-      (more-degrades n (λ m low high. enters m low (omega arith)) (λ m low high. small m low (omega arith)))
+      (more-degrades n (λ m from to. enters m from (omega arith)) (λ m from to. small m from (omega arith)))
       (more (suc n) .drained))

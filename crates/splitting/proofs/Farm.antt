@@ -1,0 +1,90 @@
+-- A farm that shows where the bounds are reached. 326 head are there in January 2011 and none after it; the lagoon has 20.0 degrees in 2011 and 30.2 in 2012, and is
+-- never drained; table solids 100, mass 1000, share 10,000, B0 51. It is entered as one line, or as two lines of 163 head. The same books are in
+-- sample/splitting. Assumes nothing.
+use Prim.Native.Nat.{ℕ, _+_, _*_}
+use mathlib.Core.Bool.{Bool, true, false, cond}
+use mathlib.Core.Path.{_≡_, refl}
+use native.Mathlib.Omega.{arith}
+use lib.Dec.{eqb, leb}
+use lib.IntN.{ℤ, pos}
+use Rattle.laws.specs.Counting.{sum}
+use Rattle.units.specs.Grams.{methane, co2e, potential, b0RuleOf}
+use Rattle.tonnes.specs.Tonnes.{netOf}
+use Rattle.calendar.specs.Days.{leapOf, februaryOf, lengthsOf, lengthOf, goneOf, daysOf, monthsInYear}
+use Rattle.factor.specs.Rule.{denominator, added, subtracted}
+use Rattle.factor.specs.Factor.{summedOf, ruledOf, factorOf}
+use Rattle.lagoon.specs.declared.Month.{Month}
+use Rattle.lagoon.specs.Month.{enteredOf, outcomeOf}
+use Rattle.run.specs.Run.{withOf, runFrom, yearOf}
+use Rattle.credit.specs.Credit.{kilogram, totalOf}
+use Rattle.credit.specs.declared.Operator.{Operator}
+use Rattle.splitting.proofs.Solids.{Split}
+use Rattle.splitting.proofs.Grams.{statedOver}
+use Rattle.splitting.proofs.Lines.{entered-apart}
+
+abbrev pub headIn : ℕ → ℕ → ℕ
+headIn head m = cond (eqb m 1) head 0
+
+abbrev pub tenthsIn : ℕ → ℕ
+tenthsIn m = cond (leb m monthsInYear) 200 302
+
+-- month m of a line with so many head in January
+unfoldable pub farm : ℕ → ℕ → Month
+farm head m =
+    record { entered = enteredOf (headIn head m) 100 1000 10000 (daysOf 2011 1 m); factor = factorOf (pos (tenthsIn m)); drained = false }
+
+abbrev pub stated : ℕ → ℕ → ℕ
+stated head year = b0RuleOf (yearOf (farm head) year .degraded) 51 potential .0
+
+-- it is a split as the theorems ask for it, in every month
+pub farm-split : (m : ℕ) → Split (farm 326 m) (farm 163 m) (farm 163 m)
+unfolding farm
+farm-split m =
+    let apart = entered-apart 100 1000 (daysOf 2011 1 m) (headIn 326 m) 10000 (headIn 163 m) 10000 (headIn 163 m) 10000 (halved (eqb m 1)) in
+    record {
+      no-more = apart .0;
+      gram-less = apart .1;
+      first-same = record { factor = refl; drained = refl };
+      second-same = record { factor = refl; drained = refl };
+    }
+  where
+    halved : (january : Bool) → cond january 163 0 * 10000 + cond january 163 0 * 10000 ≡ cond january 326 0 * 10000
+    halved true = refl
+    halved false = refl
+
+-- In the first year the two lines are 21 grams behind, in the second 22 ahead: over both a gram ahead, which is all that two years can gain.
+pub baselines : (stated 326 1 ≡ 5879003) × (stated 326 2 ≡ 8994) × (stated 163 1 ≡ 2939491) × (stated 163 2 ≡ 4508)
+unfolding farm yearOf runFrom withOf outcomeOf enteredOf daysOf goneOf lengthOf lengthsOf februaryOf leapOf factorOf ruledOf summedOf denominator added subtracted b0RuleOf
+baselines = (refl, refl, refl, refl)
+
+pub gram-ahead : statedOver (farm 163) 51 0 2 + statedOver (farm 163) 51 0 2 ≡ statedOver (farm 326) 51 0 2 + 1
+unfolding sum
+gram-ahead = rw (baselines .0, baselines .1, baselines .2, baselines .3)
+
+-- The year's net where the operator enters so many kilograms of baseline carbon dioxide, and so much methane was destroyed that the modelled one is the lesser.
+abbrev pub entered : ℕ → ℕ → Operator
+entered kilograms grams = record { methane = co2e 0; baseline = co2e (kilogram * kilograms); project = co2e 0; destroyed = methane grams }
+
+abbrev pub net : ℕ → ℕ → ℕ → ℤ
+net baseline kilograms grams = netOf (totalOf (co2e baseline) (entered kilograms grams))
+
+-- One filing, with 621 kilograms in the first year and 1,491 in the second: two lines lose a tonne in the first and gain one in the second.
+pub one-filing :
+    (net (stated 326 1) 621 1000000 ≡ pos 7) × (net (stated 163 1 + stated 163 1) 621 1000000 ≡ pos 6) ×
+    (net (stated 326 2) 1491 1000000 ≡ pos 1) × (net (stated 163 2 + stated 163 2) 1491 1000000 ≡ pos 2)
+unfolding totalOf
+one-filing = rw (baselines .0, baselines .1, baselines .2, baselines .3) (refl, refl, refl, refl)
+
+-- Two filings, with the kilograms and the destroyed methane divided between them: three tonnes each in the first year, where the whole has seven, and one each in
+-- the second, where the whole has one.
+pub two-filings :
+    (net (stated 163 1) 311 500000 ≡ pos 3) × (net (stated 163 1) 310 500000 ≡ pos 3) ×
+    (net (stated 163 2) 746 500000 ≡ pos 1) × (net (stated 163 2) 745 500000 ≡ pos 1)
+unfolding totalOf
+two-filings = rw (baselines .2, baselines .3) (refl, refl, refl, refl)
+
+-- Two filings can lose more: where all the destroyed methane is one filing's, the other's methane counts nothing.
+pub meter-in-one :
+    (net (stated 326 1) 621 1000000 ≡ pos 7) × (net (stated 163 1) 311 1000000 ≡ pos 3) × (net (stated 163 1) 310 0 ≡ pos 0)
+unfolding totalOf
+meter-in-one = rw (baselines .0, baselines .2) (refl, refl, refl)
