@@ -63,7 +63,7 @@ gram-ahead = rw (baselines .0, baselines .1, baselines .2, baselines .3)
 
 -- The year's net where the operator enters so many kilograms of baseline carbon dioxide, and so much methane was destroyed that the modelled one is the lesser.
 abbrev pub entered : ℕ → ℕ → Operator
-entered kilograms grams = record { methane = co2e 0; baseline = co2e (kilogram * kilograms); project = co2e 0; destroyed = methane grams }
+entered kilograms grams = record { «project_methane» = co2e 0; «baseline_co2» = co2e (kilogram * kilograms); «project_co2» = co2e 0; destroyed = methane grams }
 
 abbrev pub net : ℕ → ℕ → ℕ → ℤ
 net baseline kilograms grams = netOf (totalOf (co2e baseline) (entered kilograms grams))
@@ -88,3 +88,17 @@ pub meter-in-one :
     (net (stated 326 1) 621 1000000 ≡ pos 7) × (net (stated 163 1) 311 1000000 ≡ pos 3) × (net (stated 163 1) 310 0 ≡ pos 0)
 unfolding totalOf
 meter-in-one = rw (baselines .0, baselines .2) (refl, refl, refl)
+
+-- A smaller herd on the same farm, at B0 47: ten head, entered as two and eight, are a gram ahead over both years as well.
+abbrev pub smaller : ℕ → ℕ → ℕ
+smaller head year = b0RuleOf (yearOf (farm head) year .degraded) 47 potential .0
+
+pub smaller-baselines :
+    (smaller 10 1 ≡ 166185) × (smaller 10 2 ≡ 261) × (smaller 2 1 ≡ 33229) × (smaller 2 2 ≡ 60) × (smaller 8 1 ≡ 132950) × (smaller 8 2 ≡ 208)
+unfolding farm yearOf runFrom withOf outcomeOf enteredOf daysOf goneOf lengthOf lengthsOf februaryOf leapOf factorOf ruledOf summedOf denominator added subtracted b0RuleOf
+smaller-baselines = (refl, refl, refl, refl, refl, refl)
+
+pub smaller-gram-ahead : statedOver (farm 2) 47 0 2 + statedOver (farm 8) 47 0 2 ≡ statedOver (farm 10) 47 0 2 + 1
+unfolding sum
+smaller-gram-ahead =
+    rw (smaller-baselines .0, smaller-baselines .1, smaller-baselines .2, smaller-baselines .3, smaller-baselines .4, smaller-baselines .5)

@@ -43,9 +43,9 @@ lesser-is (negsuc a) (negsuc b) = go (decLe b a)
 
 -- a year's modelled figure, its reduction and its total
 record Totalled (baseline : ℕ) (operator : Operator) (modelled reduction total : ℤ) : Type 0 where
-  less-project : above modelled + operator .methane .0 ≡ below modelled + baseline
+  less-project : above modelled + operator .«project_methane» .0 ≡ below modelled + baseline
   lesser : Lesser modelled (pos (meteredOf operator .0)) reduction
-  with-carbon : above total + below reduction + operator .project .0 ≡ below total + above reduction + operator .baseline .0
+  with-carbon : above total + below reduction + operator .«project_co2» .0 ≡ below total + above reduction + operator .«baseline_co2» .0
 
 totalled :
     (baseline : ℕ) (operator : Operator) →
@@ -54,9 +54,9 @@ unfolding totalOf
 totalled baseline operator =
     let reduction = reductionOf (co2e baseline) operator in
     record {
-      less-project = omega (arith, minus-is (pos baseline) (operator .methane .0));
+      less-project = omega (arith, minus-is (pos baseline) (operator .«project_methane» .0));
       lesser = lesser-is (modelledOf (co2e baseline) operator) (pos (meteredOf operator .0));
-      with-carbon = omega (arith, sum-is reduction (pos (operator .baseline .0)), minus-is (reduction +ℤ pos (operator .baseline .0)) (operator .project .0));
+      with-carbon = omega (arith, sum-is reduction (pos (operator .«baseline_co2» .0)), minus-is (reduction +ℤ pos (operator .«baseline_co2» .0)) (operator .«project_co2» .0));
     }
 
 -- One filing: by so many grams as its baseline is above another's, by so many at most is its total, the operator's entries being the same.
@@ -72,9 +72,9 @@ total-more one other more operator ahead =
 
 -- what the operator of one filing enters is divided between two
 pub record Divided (whole first second : Operator) : Type 0 where
-  pub methane : first .methane .0 + second .methane .0 ≡ whole .methane .0
-  pub baseline : first .baseline .0 + second .baseline .0 ≡ whole .baseline .0
-  pub project : first .project .0 + second .project .0 ≡ whole .project .0
+  pub project-methane : first .«project_methane» .0 + second .«project_methane» .0 ≡ whole .«project_methane» .0
+  pub baseline-co2 : first .«baseline_co2» .0 + second .«baseline_co2» .0 ≡ whole .«baseline_co2» .0
+  pub project-co2 : first .«project_co2» .0 + second .«project_co2» .0 ≡ whole .«project_co2» .0
   pub destroyed : first .destroyed .0 + second .destroyed .0 ≡ whole .destroyed .0
 
 -- Two filings: their totals together are at most so many grams above the whole's as their baselines are. Dividing the metered methane gains nothing, since
