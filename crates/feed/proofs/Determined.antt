@@ -1,5 +1,5 @@
--- What comes of standard input is the system's, and no contract can say it. What the contract tells of it is one: how long the book is.
--- Assumes nothing.
+-- Which input comes is the system's, and no contract can say it. The contract tells that the ending and the book are what some input's records make of the
+-- book before (`Comes`), so that they differ with the input alone; what is one for every input is how long the book is. Assumes nothing.
 use lib.ListN.{length}
 use Rattle.laws.proofs.Determined.{OneTold, one}
 use Rattle.feed.proofs.post_input.Reads as PostInput
