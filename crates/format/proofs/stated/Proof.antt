@@ -55,7 +55,7 @@ returns-3 c =
     rw (
       sym (c .before .before .before .before .before .before .is-other-mark .ensures) ∙ c .before .before .before .before .before .if1 .left,
       le-leb 10 (length input) (c .before .before .before .before .if2 .left),
-      ne-eqb (length input) (10 + 4 * numberAt input 4 2 + 4 * numberAt input 6 2 + numberAt input 8 2) (λ e. c .if3 .taken (e ∙ omega (arith, c .before .before .before .number .ensures .0, c .before .before .number2 .ensures .0, c .before .number3 .ensures .0))),
+      ne-eqb (length input) (10 + 4 * numberAt input 4 2 + 4 * numberAt input 6 2 + numberAt input 8 2) (λ e. omega (arith, e, c .if3 .taken, c .before .before .before .number .ensures .0, c .before .before .number2 .ensures .0, c .before .number3 .ensures .0)),
     )
 
 lent-requires : tie.Need-lent-requires
