@@ -21,6 +21,7 @@ use Rattle.credit.specs.Credit.{operatorOf, totalOf}
 use Rattle.credit.specs.declared.Operator.{Operator}
 use Rattle.year.specs.Figures.{figuresOf}
 use Rattle.year.specs.declared.Figures.{Figures}
+use Rattle.splitting.proofs.Grams.{mostAhead, mostBehind, YearStated}
 use Rattle.splitting.proofs.Lines.{SplitLine, SplitMonth, baselineIn, lines-in-first-year, lines-in-year}
 use Rattle.splitting.proofs.Others.{but, baselineOf, Placed, lineAt, line-and-others, two-and-others}
 use Rattle.splitting.proofs.Tonnes.{AtMost, Divided, total-more, totals-more, tonne, net-more, nets-more, shown, credited-more}
@@ -62,29 +63,18 @@ net-within one other year more same ahead =
     ((more + (tonne - 1)) / tonne))
     (sym same) (net-more (total-more (baselineOf one year all) (baselineOf other year all) more (operatorOf one year) ahead))
 
--- the two books' baselines, by those of the split line and of the others
-module _ {whole split : List ℕ} {line first second year : ℕ} (filing : OneFiling whole split line first second year) where
-  ahead :
-      (more : ℕ) → baselineIn (lineAt split first) year + baselineIn (lineAt split second) year ≤ baselineIn (lineAt whole line) year + more →
-      baselineOf split year all ≤ baselineOf whole year all + more
-  ahead more by =
-      omega (
-        arith,
-        line-and-others whole year line (filing .line-placed),
-        two-and-others split year first second (filing .first-placed) (filing .second-placed) (filing .two),
-        filing .others,
-      )
-
-  behind :
-      (more : ℕ) → baselineIn (lineAt whole line) year ≤ baselineIn (lineAt split first) year + baselineIn (lineAt split second) year + more →
-      baselineOf whole year all ≤ baselineOf split year all + more
-  behind more by =
-      omega (
-        arith,
-        line-and-others whole year line (filing .line-placed),
-        two-and-others split year first second (filing .first-placed) (filing .second-placed) (filing .two),
-        filing .others,
-      )
+-- the two books' baselines are as far apart as the line's and its parts'
+differ :
+    (whole split : List ℕ) (line first second year : ℕ) → OneFiling whole split line first second year →
+    baselineOf split year all + baselineIn (lineAt whole line) year ≡
+    baselineOf whole year all + baselineIn (lineAt split first) year + baselineIn (lineAt split second) year
+differ whole split line first second year filing =
+    omega (
+      arith,
+      line-and-others whole year line (filing .line-placed),
+      two-and-others split year first second (filing .first-placed) (filing .second-placed) (filing .two),
+      filing .others,
+    )
 
 module _ (whole split : List ℕ) (line first second : ℕ) (valid : Valid whole)
     (herd : SplitLine (lineAt whole line) (lineAt split first) (lineAt split second)) where
@@ -94,15 +84,15 @@ module _ (whole split : List ℕ) (line first second : ℕ) (valid : Valid whole
   abbrev Filed : ℕ → Type 0
   Filed year = OneFiling whole split line first second year
 
-  gained : (year : ℕ) → InPeriod year → Each (monthsThrough year) Month → Filed year → AtMost (netIn split year) (netIn whole year) 1
-  gained year period months filing =
-      let stated = lines-in-year (lineAt whole line) (lineAt split first) (lineAt split second) herd valid (filing .line-placed .high) year period months in
-      net-within whole split year 1543 (filing .operator) (ahead filing 1543 (stated .gained))
+  module _ (year : ℕ) (period : InPeriod year) (months : Each (monthsThrough year) Month) (filing : Filed year) where
+    stated : YearStated (baselineIn (lineAt whole line) year) (baselineIn (lineAt split first) year) (baselineIn (lineAt split second) year)
+    stated = lines-in-year (lineAt whole line) (lineAt split first) (lineAt split second) herd valid (filing .line-placed .high) year period months
 
-  lost : (year : ℕ) → InPeriod year → Each (monthsThrough year) Month → Filed year → AtMost (netIn whole year) (netIn split year) 1
-  lost year period months filing =
-      let stated = lines-in-year (lineAt whole line) (lineAt split first) (lineAt split second) herd valid (filing .line-placed .high) year period months in
-      net-within split whole year 1886 (sym (filing .operator)) (behind filing 1886 (stated .lost))
+    gained : AtMost (netIn split year) (netIn whole year) 1
+    gained = net-within whole split year mostAhead (filing .operator) (omega (arith, differ whole split line first second year filing, stated .gained))
+
+    lost : AtMost (netIn whole year) (netIn split year) 1
+    lost = net-within split whole year mostBehind (sym (filing .operator)) (omega (arith, differ whole split line first second year filing, stated .lost))
 
   -- In any year of the crediting period, at most one tonne more, and at most one less.
   pub one-filing : (year : ℕ) → InPeriod year → Each (monthsThrough year) Month → Filed year → WithinATonne (figuresOf whole year) (figuresOf split year)
@@ -120,8 +110,12 @@ module _ (whole split : List ℕ) (line first second : ℕ) (valid : Valid whole
   -- In the first year, none more.
   first-gained : Each monthsInYear Month → Filed firstYear → AtMost (netIn split firstYear) (netIn whole firstYear) 0
   first-gained months filing =
-      let never = lines-in-first-year (lineAt whole line) (lineAt split first) (lineAt split second) herd months in
-      net-within whole split firstYear 0 (filing .operator) (ahead filing 0 (omega arith))
+      net-within whole split firstYear 0 (filing .operator)
+      (omega (
+        arith,
+        differ whole split line first second firstYear filing,
+        lines-in-first-year (lineAt whole line) (lineAt split first) (lineAt split second) herd months,
+      ))
 
   pub one-filing-first-year : Each monthsInYear Month → Filed firstYear → netIn split firstYear ≤ℤ netIn whole firstYear
   one-filing-first-year months filing = ordered _ _ (omega (arith, first-gained months filing .most))
@@ -171,7 +165,7 @@ module _ (whole first second : LineOf) (valid : Valid (whole .book)) (herd : Spl
   both-gained year period months filings =
       let stated = lines-in-year whole first second herd valid (filings .whole-placed .high) year period months in
       nets-more (totalIn (first .book) year) (totalIn (second .book) year)
-      (totals-more (baselineOf (whole .book) year all) (baselineOf (first .book) year all) (baselineOf (second .book) year all) 1543
+      (totals-more (baselineOf (whole .book) year all) (baselineOf (first .book) year all) (baselineOf (second .book) year all) mostAhead
       (operatorOf (whole .book) year) (operatorOf (first .book) year) (operatorOf (second .book) year) (filings .operators)
       (omega (
         arith,

@@ -80,10 +80,16 @@ behind-in-ten-years {b0 = b0} {years = years} stated low within =
     let few : monthsInYear * (0 + 2 * years) ≤ monthsInYear * (2 * lastYear) = omega arith in
     omega (arith, stated .lost, within-highest low few)
 
--- In any one year of the crediting period they are ahead by at most 1,543 grams, and behind by at most 1,886.
+-- in any one year of the crediting period they are ahead by at most so many grams, and behind by at most so many
+abbrev pub mostAhead : ℕ
+mostAhead = 1543
+
+abbrev pub mostBehind : ℕ
+mostBehind = 1886
+
 pub record YearStated (whole first second : ℕ) : Type 0 where
-  pub gained : first + second ≤ whole + 1543
-  pub lost : whole ≤ first + second + 1886
+  pub gained : first + second ≤ whole + mostAhead
+  pub lost : whole ≤ first + second + mostBehind
 
 pub in-one-year :
     {whole first second b0 before : ℕ} → YearsStated whole first second b0 before 1 → b0 ≤ highestB0 → before + 1 ≤ lastYear →

@@ -1,5 +1,6 @@
 pub mod More
 pub mod Solids
+pub mod Reached
 pub mod Grams
 pub mod Lines
 pub mod Tonnes
