@@ -6,10 +6,11 @@
 
 pub mod book;
 pub mod cabinet;
-pub mod cases;
+pub mod deliveries;
 pub mod difference;
 pub mod digest;
 pub mod driver;
+pub mod floors;
 pub mod full;
 pub mod hours;
 #[cfg(feature = "linked")]
@@ -17,4 +18,3 @@ pub mod linked;
 pub mod random;
 pub mod slots;
 pub mod streams;
-pub mod tally;

@@ -11,15 +11,15 @@ use std::thread;
 
 use bench::book::{record, whole, Extent, Record, HD, LN, PE, RECORD_BYTES, TP, YR};
 use bench::cabinet::BOOK_BYTES;
-use bench::cases::{deliveries, months};
+use bench::deliveries::{deliveries, months};
 use bench::difference::{Difference, Sides};
 use bench::driver::{Delivered, Delivery, Driver, Patterns};
+use bench::floors::{Floor, Tally};
 use bench::full::full_book;
 use bench::hours::input;
 use bench::random::Random;
 use bench::slots::Slots;
 use bench::streams::{joined, pieces, stream};
-use bench::tally::{Floor, Tally};
 
 const USAGE: &str =
     "usage: library DRIVER [streams COUNT] [months COUNT] [floats] [temperatures] [cuts] [sizes] [seed SEED]";
