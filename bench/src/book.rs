@@ -10,12 +10,14 @@ pub const CATEGORIES: i64 = 16;
 pub const MONTHS: i64 = 120;
 pub const DEVICES: i64 = 4;
 
-/// A field: its offset, its bytes, its lowest and its highest value.
+/// A field: its offset, its bytes, its lowest and its highest value, and
+/// whether it is part of the record's key.
 pub struct Field {
     pub at: usize,
     pub bytes: usize,
     pub low: i64,
     pub high: i64,
+    pub is_key: bool,
 }
 
 const fn field(at: usize, bytes: usize, low: i64, high: i64) -> Field {
@@ -24,6 +26,15 @@ const fn field(at: usize, bytes: usize, low: i64, high: i64) -> Field {
         bytes,
         low,
         high,
+        is_key: false,
+    }
+}
+
+/// A line, a category, a month or a device: a byte that counts from 1.
+const fn key(at: usize, high: i64) -> Field {
+    Field {
+        is_key: true,
+        ..field(at, 1, 1, high)
     }
 }
 
@@ -35,7 +46,7 @@ pub const TABLE: [(&[u8; 2], &[Field]); 7] = [
     (
         b"LN",
         &[
-            field(2, 1, 1, LINES),
+            key(2, LINES),
             field(3, 1, 0, 1),
             field(4, 1, 1, CATEGORIES),
             field(6, 2, 0, 2_000),
@@ -47,18 +58,14 @@ pub const TABLE: [(&[u8; 2], &[Field]); 7] = [
     ),
     (
         b"HD",
-        &[
-            field(2, 1, 1, CATEGORIES),
-            field(3, 1, 1, MONTHS),
-            field(4, 4, 0, 100_000),
-        ],
+        &[key(2, CATEGORIES), key(3, MONTHS), field(4, 4, 0, 100_000)],
     ),
-    (b"TP", &[field(2, 1, 1, MONTHS), field(4, 2, -500, 600)]),
-    (b"DR", &[field(2, 1, 1, LINES), field(3, 1, 1, MONTHS)]),
+    (b"TP", &[key(2, MONTHS), field(4, 2, -500, 600)]),
+    (b"DR", &[key(2, LINES), key(3, MONTHS)]),
     (
         b"PE",
         &[
-            field(2, 1, 1, MONTHS),
+            key(2, MONTHS),
             field(4, 4, 0, ALL_OF_U32),
             field(8, 4, 0, ALL_OF_U32),
             field(12, 4, 0, ALL_OF_U32),
@@ -67,8 +74,8 @@ pub const TABLE: [(&[u8; 2], &[Field]); 7] = [
     (
         b"MT",
         &[
-            field(2, 1, 1, MONTHS),
-            field(3, 1, 1, DEVICES),
+            key(2, MONTHS),
+            key(3, DEVICES),
             field(4, 8, 0, 1_000_000_000_000),
         ],
     ),
@@ -84,6 +91,15 @@ pub fn record(row: usize, values: &[i64]) -> Record {
             .copy_from_slice(&value.to_le_bytes()[..field.bytes]);
     }
     record
+}
+
+/// The offsets of the zero bytes of a row.
+pub fn zero_bytes(row: usize) -> Vec<usize> {
+    let is_field = |at: usize| {
+        let mut fields = TABLE[row].1.iter();
+        fields.any(|field| (field.at..field.at + field.bytes).contains(&at))
+    };
+    (2..RECORD_BYTES).filter(|&at| !is_field(at)).collect()
 }
 
 pub const YR: usize = 0;
@@ -163,15 +179,60 @@ impl Extent {
     };
 }
 
+/// The highest heads, project figures and destroyed grams of a made-up book.
+pub struct Most {
+    pub head: i64,
+    pub project: i64,
+    pub destroyed: i64,
+}
+
+impl Most {
+    pub fn any(random: &mut Random) -> Most {
+        Most {
+            head: [100, 5_000, 100_000][random.below(3)],
+            project: [1_000, 1_000_000, ALL_OF_U32][random.below(3)],
+            destroyed: [1_000_000, 1_000_000_000, 1_000_000_000_000][random.below(3)],
+        }
+    }
+}
+
 /// The records of a book that has all that its years need, key by key. The
 /// shares of a category may pass the whole.
 pub fn whole(random: &mut Random, extent: &Extent) -> Vec<Record> {
+    let most = Most::any(random);
+    book(random, extent, &most)
+}
+
+/// Likewise, with no figure above these.
+pub fn book(random: &mut Random, extent: &Extent, most: &Most) -> Vec<Record> {
     let mut records = vec![record(
         YR,
         &[random.within(2000, 2089), random.within(1, 12)],
     )];
+    records.extend(lines(random, extent));
+    for month in 1..=extent.months {
+        for category in 1..=extent.categories {
+            records.push(record(HD, &[category, month, random.within(0, most.head)]));
+        }
+        records.push(record(TP, &[month, random.within(-100, 330)]));
+        for line in 1..=extent.lines {
+            if random.once_in(9) {
+                records.push(record(DR, &[line, month]));
+            }
+        }
+        let figures = [0; 3].map(|_| random.within(0, most.project));
+        records.push(record(PE, &[month, figures[0], figures[1], figures[2]]));
+        for device in 1..=extent.devices {
+            let destroyed = random.within(0, most.destroyed);
+            records.push(record(MT, &[month, device, destroyed]));
+        }
+    }
+    records
+}
+
+fn lines(random: &mut Random, extent: &Extent) -> Vec<Record> {
     let most_share = 10_000 * extent.categories / extent.lines.max(extent.categories);
-    for line in 1..=extent.lines {
+    let mut line = |line: i64| {
         let system = random.within(0, 1);
         let share = if random.once_in(40) {
             10_000
@@ -183,29 +244,10 @@ pub fn whole(random: &mut Random, extent: &Extent) -> Vec<Record> {
         let solids = random.within(0, 2_000);
         let mass = random.within(0, 20_000);
         let b0 = random.within(0, 100);
-        records.push(record(
+        record(
             LN,
             &[line, system, category, solids, mass, share, b0, conversion],
-        ));
-    }
-    let most_head = [100, 5_000, 100_000][random.below(3)];
-    for month in 1..=extent.months {
-        for category in 1..=extent.categories {
-            records.push(record(HD, &[category, month, random.within(0, most_head)]));
-        }
-        records.push(record(TP, &[month, random.within(-100, 330)]));
-        for line in 1..=extent.lines {
-            if random.once_in(9) {
-                records.push(record(DR, &[line, month]));
-            }
-        }
-        let most = [1_000, 1_000_000, ALL_OF_U32][random.below(3)];
-        let figures = [0; 3].map(|_| random.within(0, most));
-        records.push(record(PE, &[month, figures[0], figures[1], figures[2]]));
-        for device in 1..=extent.devices {
-            let most = [1_000_000, 1_000_000_000, 1_000_000_000_000][random.below(3)];
-            records.push(record(MT, &[month, device, random.within(0, most)]));
-        }
-    }
-    records
+        )
+    };
+    (1..=extent.lines).map(&mut line).collect()
 }

@@ -9,9 +9,34 @@ pub struct Hours {
     pub efficiency: u16,
 }
 
-const NO_FLOW: u8 = 1;
-const NO_CONTENT: u8 = 2;
-const DEVICE_OUT: u8 = 4;
+pub const NO_FLOW: u8 = 1;
+pub const NO_CONTENT: u8 = 2;
+pub const NEITHER: u8 = NO_FLOW | NO_CONTENT;
+pub const DEVICE_OUT: u8 = 4;
+pub const HIGHEST_STATE: u8 = 7;
+
+impl Hours {
+    /// So many hours, all alike and with nothing missing.
+    pub fn steady(count: usize, flow: f32, content: f32) -> Hours {
+        Hours {
+            flows: vec![flow; count],
+            contents: vec![content; count],
+            states: vec![0; count],
+            efficiency: 10_000,
+        }
+    }
+
+    /// So many hours of which no two near each other are alike, nothing missing.
+    pub fn uneven(count: usize) -> Hours {
+        let mut hours = Hours::steady(count, 0.0, 0.0);
+        for hour in 0..count {
+            hours.flows[hour] = 80.0 + (hour * 37 % 101) as f32 + (hour % 89) as f32 / 64.0;
+            hours.contents[hour] = 45.0 + (hour * 29 % 47) as f32 + (hour % 83) as f32 / 128.0;
+        }
+        hours.efficiency = 9_973;
+        hours
+    }
+}
 
 /// The month of the run's case `case`: gaps of every length, and in some a bad
 /// float, an odd state or a wrong length.

@@ -1,0 +1,125 @@
+//! Books made by hand, whose figures tell every field: no two months alike, a
+//! line of each system, two lines in one category, a lagoon that is drained.
+
+use crate::book::{record, Record, DR, HD, LN, MT, PE, TP, YR};
+
+/// Line 1 and 3 are anaerobic, of category 1; line 2 is another system's, of category 2.
+pub const LINE: [[i64; 8]; 3] = [
+    [1, 0, 1, 811, 6_003, 5_000, 24, 0],
+    [2, 1, 2, 907, 4_999, 7_001, 31, 3_003],
+    [3, 0, 1, 1_013, 5_501, 4_000, 19, 0],
+];
+pub const DRAINED: [i64; 2] = [1, 7];
+
+/// The values of the farm's record of a row: of the first of its lines, of
+/// month 5 where it has a month, of category 1 and of device 1.
+pub fn ordinary(row: usize) -> Vec<i64> {
+    match row {
+        YR => vec![2003, 11],
+        LN => LINE[0].to_vec(),
+        HD => vec![1, 5, head(1, 5)],
+        TP => vec![5, temperature(5)],
+        DR => DRAINED.to_vec(),
+        PE => [vec![5], project(5).to_vec()].concat(),
+        MT => vec![5, 1, destroyed(1, 5)],
+        _ => unreachable!("the table has seven rows"),
+    }
+}
+
+pub fn head(category: i64, month: i64) -> i64 {
+    1_000 + 137 * month + 11 * month * month + 53 * category
+}
+
+pub fn temperature(month: i64) -> i64 {
+    37 + 211 * month % 270
+}
+
+pub fn project(month: i64) -> [i64; 3] {
+    [70_000 + month, 900 + 3 * month, 1_100 + 7 * month]
+}
+
+pub fn destroyed(device: i64, month: i64) -> i64 {
+    9_000_000 * device + 1_003 * month
+}
+
+/// The farm over so many months, with two devices.
+pub fn farm(months: i64) -> Vec<Record> {
+    let mut records = vec![record(YR, &ordinary(YR))];
+    records.extend(LINE.iter().map(|line| record(LN, line)));
+    records.push(record(DR, &DRAINED));
+    for month in 1..=months {
+        records
+            .extend([1, 2].map(|category| record(HD, &[category, month, head(category, month)])));
+        records.push(record(TP, &[month, temperature(month)]));
+        let [methane, baseline, co2] = project(month);
+        records.push(record(PE, &[month, methane, baseline, co2]));
+        records.extend([1, 2].map(|device| record(MT, &[month, device, destroyed(device, month)])));
+    }
+    records
+}
+
+/// The farm's year with another record in place of one that it has.
+pub fn with(ordinary: &Record, other: Record) -> Vec<Record> {
+    let mut records = farm(12);
+    let place = records.iter().position(|record| record == ordinary);
+    records[place.expect("the farm has this record")] = other;
+    records
+}
+
+/// The records without one.
+pub fn without(mut records: Vec<Record>, left_out: &Record) -> Vec<Record> {
+    let before = records.len();
+    records.retain(|record| record != left_out);
+    assert!(records.len() < before, "the book has this record");
+    records
+}
+
+/// The records, and more after them.
+pub fn and(mut records: Vec<Record>, more: &[Record]) -> Vec<Record> {
+    records.extend(more);
+    records
+}
+
+/// A book of one line over so many months, all at one temperature: what
+/// enters, month by month, is what its heads say.
+pub struct Single {
+    pub first: [i64; 2],
+    pub line: [i64; 8],
+    pub months: i64,
+    pub tenths: i64,
+}
+
+/// Paper 01's line: 100 head of it enter 480,000 grams a day.
+pub const PAPER_LINE: [i64; 8] = [1, 0, 1, 1_000, 6_000, 10_000, 24, 0];
+
+impl Single {
+    pub fn paper(months: i64) -> Single {
+        Single {
+            first: [2011, 1],
+            line: PAPER_LINE,
+            months,
+            tenths: 302,
+        }
+    }
+
+    /// With these heads, and of the project what `project` says.
+    pub fn book(
+        &self,
+        head: impl Fn(i64) -> i64,
+        project: impl Fn(i64) -> [i64; 3],
+    ) -> Vec<Record> {
+        let mut records = vec![record(YR, &self.first), record(LN, &self.line)];
+        for month in 1..=self.months {
+            records.push(record(HD, &[self.line[2], month, head(month)]));
+            records.push(record(TP, &[month, self.tenths]));
+            let [methane, baseline, co2] = project(month);
+            records.push(record(PE, &[month, methane, baseline, co2]));
+        }
+        records
+    }
+}
+
+/// Nothing entered for a project.
+pub fn nothing(_month: i64) -> [i64; 3] {
+    [0; 3]
+}
