@@ -60,9 +60,9 @@ impl Claim {
 
     pub fn told(&self) -> String {
         match self {
-            Claim::Prints(text) => format!("paper 01 prints {text:?}"),
+            Claim::Prints(text) => format!("not {text:?}, which paper 01 prints"),
             Claim::Figure(name, low, high) => {
-                format!("paper 01 has {name} from {low} to {high}")
+                format!("{name} not from {low} to {high}, as paper 01 has it")
             }
         }
     }

@@ -110,35 +110,53 @@ fn outputs(proved: &Proved, cases: &[&Case]) -> Result<Vec<Vec<u8>>, String> {
     Ok(all.into_iter().map(|(_, output)| output).collect())
 }
 
-/// The cases on which the two sides, or the proved one and paper 01, differ:
+/// The cases on which the two sides differ, or one of them from paper 01:
 /// each is kept, and what is wrong with it told.
 fn differing(cases: &[&Case], outputs: &[Vec<u8>]) -> Result<Vec<String>, String> {
     let mut faults = Vec::new();
     for (number, (case, proved)) in cases.iter().zip(outputs).enumerate() {
-        let second = second(case.program, &case.input);
-        let mut wrong: Vec<String> = case
-            .claims
-            .iter()
-            .filter(|claim| !claim.holds(proved) || !claim.holds(&second))
-            .map(|claim| claim.told())
-            .collect();
-        if second != *proved {
-            wrong.push("the two differ".to_string());
-        }
+        let wrong = wrong_with(case, proved);
         if !wrong.is_empty() {
             let place = keep_differing(case, number).map_err(|error| error.to_string())?;
             faults.push(format!(
-                "{}, {}: {}: {}: proved {:?}, second {:?}",
+                "{}, {}: {}: {}",
                 case.group,
                 case.name,
                 place.display(),
-                wrong.join(", "),
-                start_of(proved),
-                start_of(&second)
+                wrong.join("; ")
             ));
         }
     }
     Ok(faults)
+}
+
+fn wrong_with(case: &Case, proved: &[u8]) -> Vec<String> {
+    let second = second(case.program, &case.input);
+    let mut wrong = Vec::new();
+    for (side, output) in [("proved", proved), ("second", &second)] {
+        let broken = case.claims.iter().filter(|claim| !claim.holds(output));
+        wrong.extend(broken.map(|claim| format!("{side}: {}", claim.told())));
+    }
+    if second != proved {
+        wrong.push(first_difference(proved, &second));
+    }
+    wrong
+}
+
+fn first_difference(proved: &[u8], second: &[u8]) -> String {
+    let [proved, second] = [proved, second].map(String::from_utf8_lossy);
+    let mut lines = [proved.lines(), second.lines()];
+    for number in 1.. {
+        match lines.each_mut().map(Iterator::next) {
+            [Some(proved), Some(second)] if proved == second => {}
+            [None, None] => break,
+            [proved, second] => {
+                let [proved, second] = [proved, second].map(|line| line.unwrap_or("nothing"));
+                return format!("line {number}: proved '{proved}', second '{second}'");
+            }
+        }
+    }
+    "the lines are the same, and not their ends".to_string()
 }
 
 fn keep_differing(case: &Case, number: usize) -> std::io::Result<PathBuf> {
@@ -147,10 +165,6 @@ fn keep_differing(case: &Case, number: usize) -> std::io::Result<PathBuf> {
     let name = format!("{}-{number}", case.program.name());
     std::fs::write(folder.join(&name), &case.input)?;
     Ok(Path::new("target/differs").join(name))
-}
-
-fn start_of(output: &[u8]) -> String {
-    String::from_utf8_lossy(output).chars().take(200).collect()
 }
 
 /// Prints what the answers come to, and hands back what is too little.
