@@ -106,7 +106,7 @@ static void answer_year(const uint8_t *book, uint64_t asked)
     answer(year.removed);
     answer(year.carried);
     answer(year.baseline);
-    answer(year.project);
+    answer(year.project_methane);
     answer(year.metered);
     answer((uint64_t)year.net);
     answer(year.credited);

@@ -89,7 +89,7 @@ static void year_is_refused(uint64_t asked, long long number, long long place)
     IS(year.removed, 0);
     IS(year.carried, 0);
     IS(year.baseline, 0);
-    IS(year.project, 0);
+    IS(year.project_methane, 0);
     IS(year.metered, 0);
     IS(year.net, 0);
     IS(year.credited, 0);
@@ -105,7 +105,7 @@ static void worked_year_is(long long metered, long long net, long long credited)
     IS(year.removed, 0);
     IS(year.carried, 0);
     IS(year.baseline, 600445440);
-    IS(year.project, 12000000);
+    IS(year.project_methane, 12000000);
     IS(year.metered, metered);
     IS(year.net, net);
     IS(year.credited, credited);

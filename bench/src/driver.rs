@@ -141,7 +141,7 @@ impl Driver {
     }
 
     fn year(&mut self) -> Result<Year, String> {
-        let [number, place, entered, degraded, removed, carried, baseline, project, metered, net, credited] =
+        let [number, place, entered, degraded, removed, carried, baseline, project_methane, metered, net, credited] =
             self.numbers()?;
         Ok(Year {
             number,
@@ -151,7 +151,7 @@ impl Driver {
             removed,
             carried,
             baseline,
-            project,
+            project_methane,
             metered,
             net: net as i64,
             credited,
