@@ -1,8 +1,8 @@
 -- The program's rules, on all that it prints: what is laid is the output of the input that came; a refusal is the output, whatever follows it; and a
 -- shorter last record is refused 1 (01, "Figures to check"). Assumes nothing.
-use mathlib.Core.Path.{_≡_, ap, _∙_}
+use mathlib.Core.Path.{_≡_, sym, ap, _∙_, subst}
 use mathlib.Core.List.{List, [], _∷_, _++_}
-use Prim.Native.Nat.{ℕ, _+_, _-_, _/_, _%_, _<_}
+use Prim.Native.Nat.{ℕ, _+_, _-_, _/_, _%_, _≤_, _<_}
 use native.Mathlib.Omega.{arith}
 use borrow.Author.Tests.{ne-eqb}
 use lib.ListN.{length}
@@ -17,13 +17,58 @@ use Rattle.book.specs.declared.Posted.{Posted}
 use Rattle.book.specs.declared.Posted.the-variants.{Taken, Refused}
 use Rattle.refusal.specs.Line.{refusalLine}
 use Rattle.feed.specs.declared.Ending.{Ending}
-use Rattle.feed.specs.Input.{bookOf, endingBy, endingOf}
+use Rattle.feed.specs.declared.Ending.the-variants.{Ended, Refused as EndingRefused, Failed}
+use Rattle.feed.specs.Input.{bookOf, endingBy, endingOf, Comes as FeedComes, unread as feed-unread, read as feed-read}
 use Rattle.feed.proofs.Posting.{after, stays, parts}
+use Rattle.page.specs.Page.{Lays}
+use Rattle.page.proofs.Laying.{within}
 use Rattle.years.specs.Output.{endingLines, output}
+use Rattle.years.specs.Input.{Comes, unread, read}
+use Rattle.years.specs.declared.Outcome.{Outcome}
+use Rattle.years.specs.declared.Outcome.the-variants.{Laid, Failed as OutcomeFailed}
 
-pub of-input : (input : List ℕ) {ending : Ending} {book : List ℕ} → ending ≡ endingOf emptyBook input → book ≡ bookOf emptyBook input → endingLines ending book ≡ output input
+-- no read failed
+abbrev Whole : Ending → Type 0
+Whole Ended = Unit
+Whole (EndingRefused number place) = Unit
+Whole Failed = ⊥
+
+-- what is printed for an ending and a book is then the output of the input that they came of
+record Printed (text : List ℕ) : Type 0 where
+  pub input : List ℕ
+  pub is : text ≡ output input
+
+came : {start book : List ℕ} {ending : Ending} → start ≡ emptyBook → FeedComes start ending book → Whole ending → Printed (endingLines ending book)
 unfolding output
-of-input input {ending} {book} e b = ap (λ (x : Ending). endingLines x book) e ∙ ap (endingLines (endingOf emptyBook input)) b
+came s (feed-unread input b) whole = absurd whole
+came {start} {book} {ending} s (feed-read input e b) whole =
+    record {
+      input = input;
+      is =
+          ap (λ (x : Ending). endingLines x book) e ∙ ap (endingLines (endingOf start input)) b
+          ∙ ap (λ (l : List ℕ). endingLines (endingOf l input) (bookOf l input)) s;
+    }
+
+pub laid :
+    {start book page later : List ℕ} {ending known : Ending} {end : ℕ} → start ≡ emptyBook → FeedComes start ending book → ending ≡ known → Whole known →
+    Lays page 0 (endingLines known book) end later → Comes page (Laid end) later
+laid {book = book} {page} {later} {ending} {known} {end} s f k whole l =
+    let o = came s f (subst Whole (sym k) whole) in
+    read (o .input) (subst (λ (t : List ℕ). Lays page 0 t end later) (ap (λ (x : Ending). endingLines x book) (sym k) ∙ o .is) l)
+
+-- what is laid ends within the page
+endOf : Outcome → ℕ
+endOf (Laid end) = end
+endOf OutcomeFailed = 0
+
+ends : {page later : List ℕ} {outcome : Outcome} → Comes page outcome later → endOf outcome ≤ length later
+unfolding endOf
+ends (unread b) = omega arith
+ends (read input l) = within l
+
+pub ends-within : {page later : List ℕ} {outcome : Outcome} (end : ℕ) → Comes page outcome later → outcome ≡ Laid end → end ≤ length later
+unfolding endOf
+ends-within {page} {later} end f e = subst (λ (x : Outcome). endOf x ≤ length later) e (ends f)
 
 refused-by : (input : List ℕ) (number place : ℕ) → answerAll emptyBook (recordsOf input) ≡ Refused number place → output input ≡ refusalLine number place
 unfolding output endingOf endingLines
