@@ -92,6 +92,10 @@ pub struct Single {
 /// Paper 01's line: 100 head of it enter 480,000 grams a day.
 pub const PAPER_LINE: [i64; 8] = [1, 0, 1, 1_000, 6_000, 10_000, 24, 0];
 
+/// So many head of this line enter a million grams in a month of 31 days.
+const MILLION_LINE: [i64; 8] = [1, 0, 1, 74, 100, 10_000, 24, 0];
+const MILLION_HEAD: i64 = 5_449;
+
 impl Single {
     pub fn paper(months: i64) -> Single {
         Single {
@@ -117,6 +121,20 @@ impl Single {
         }
         records
     }
+}
+
+/// A million grams enter in January 2011 and nothing after it, all at one
+/// temperature, with these figures of the project in month 3.
+pub fn million(tenths: i64, project: [i64; 3]) -> Vec<Record> {
+    let farm = Single {
+        line: MILLION_LINE,
+        tenths,
+        ..Single::paper(12)
+    };
+    farm.book(
+        |month| if month == 1 { MILLION_HEAD } else { 0 },
+        |month| if month == 3 { project } else { [0; 3] },
+    )
 }
 
 /// Nothing entered for a project.

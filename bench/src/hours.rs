@@ -15,6 +15,9 @@ pub const NEITHER: u8 = NO_FLOW | NO_CONTENT;
 pub const DEVICE_OUT: u8 = 4;
 pub const HIGHEST_STATE: u8 = 7;
 
+/// The hours of months of 28 to 31 days.
+pub const LENGTHS: [usize; 4] = [672, 696, 720, 744];
+
 impl Hours {
     /// So many hours, all alike and with nothing missing.
     pub fn steady(count: usize, flow: f32, content: f32) -> Hours {
@@ -42,7 +45,7 @@ impl Hours {
 /// float, an odd state or a wrong length.
 pub fn hours(seed: u64, case: u64) -> Hours {
     let random = &mut Random::of_case(seed, case);
-    let count = [672, 696, 720, 744][random.below(4)];
+    let count = LENGTHS[random.below(LENGTHS.len())];
     let mut hours = Hours {
         flows: (0..count).map(|_| flow(random)).collect(),
         contents: (0..count).map(|_| content(random)).collect(),

@@ -6,7 +6,7 @@ use crate::book::{
     record, whole, Extent, Most, Record, CATEGORIES, DEVICES, DR, LINES, LN, MONTHS,
 };
 use crate::book::{HD, MT, PE, TP, YR};
-use crate::farm::{self, and, nothing, Single};
+use crate::farm::{self, and, million, nothing, Single};
 use crate::random::Random;
 use crate::streams::{joined, stream};
 
@@ -101,12 +101,7 @@ pub fn temperatures() -> Group {
         }
     }
     for tenths in (47..=53).chain(297..=305) {
-        let farm = Single {
-            line: [1, 0, 1, 74, 100, 10_000, 24, 0],
-            tenths,
-            ..Single::paper(12)
-        };
-        let book = farm.book(|month| if month == 1 { 5_449 } else { 0 }, nothing);
+        let book = million(tenths, [0; 3]);
         group.book(
             format!("a million grams at {tenths}"),
             &and(book, &[record(DR, &[1, 1])]),
@@ -147,7 +142,7 @@ pub fn tonnes() -> Group {
     // 3,427,200 grams of baseline are 21 times 163,200.
     for destroyed in [0, 163_190, 163_199, 163_200, 163_201, 163_210, 1_000_000] {
         for methane in [0, 1, 3_427, 3_428, 10_000] {
-            let book = million([methane, 73, 0]);
+            let book = million(302, [methane, 73, 0]);
             group.book(
                 format!("destroyed {destroyed}, project methane {methane}"),
                 &and(book, &[record(MT, &[7, 2, destroyed])]),
@@ -163,19 +158,7 @@ fn book_of_total(total: i64) -> Vec<Record> {
     let destroyed = (total * 381).rem_euclid(1_000);
     let kilograms = (total - 21 * destroyed) / 1_000;
     let figures = [0, kilograms.max(0), (-kilograms).max(0)];
-    and(million(figures), &[record(MT, &[12, 1, destroyed])])
-}
-
-/// A book of a million grams degraded, with these figures of the project in month 3.
-fn million(figures: [i64; 3]) -> Vec<Record> {
-    let farm = Single {
-        line: [1, 0, 1, 74, 100, 10_000, 24, 0],
-        ..Single::paper(12)
-    };
-    farm.book(
-        |month| if month == 1 { 5_449 } else { 0 },
-        |month| if month == 3 { figures } else { [0; 3] },
-    )
+    and(million(302, figures), &[record(MT, &[12, 1, destroyed])])
 }
 
 /// Books of so few heads and so little mass that every rounding shows.

@@ -30,8 +30,8 @@ pub fn edges() -> Group {
     group
 }
 
-/// The ends of a field's range with their neighbours, and the ends of what its
-/// bytes hold.
+/// The ends of a field's range with their neighbours, and its bytes with the
+/// highest bit set, and with all.
 fn edge_values(row: usize, field: usize, ordinary: i64) -> Vec<i64> {
     let entry = &TABLE[row].1[field];
     let mut values = vec![
@@ -42,11 +42,9 @@ fn edge_values(row: usize, field: usize, ordinary: i64) -> Vec<i64> {
         entry.high,
         entry.high + 1,
     ];
-    // A number whose last byte alone is that of a value in its range.
-    if entry.bytes > 1 {
-        values.push(ordinary + (1 << (8 * entry.bytes - 1)));
-    }
-    values.push(-1);
+    let highest_bit = 1 << (8 * entry.bytes - 1);
+    let all_bits = -1;
+    values.extend([ordinary | highest_bit, all_bits]);
     values.sort();
     values.dedup();
     values

@@ -3,7 +3,7 @@
 
 use super::{Group, Program};
 use crate::book::{record, Record, DR, HD, MT, PE, TP};
-use crate::farm::{and, nothing, Single, PAPER_LINE};
+use crate::farm::{and, million, nothing, Single};
 use crate::hours::{Hours, NEITHER, NO_FLOW};
 
 const WORKED: &str = "\
@@ -13,10 +13,6 @@ baseline 600445440 project 12000000 metered 504000000
 net 498 credited 498
 refused 8 at 13
 ";
-
-/// 5,449 head of this line enter a million grams in 31 days.
-const MILLION_LINE: [i64; 8] = [1, 0, 1, 74, 100, 10_000, 24, 0];
-const MILLION_HEAD: i64 = 5_449;
 
 pub fn figures() -> Group {
     let mut group = Group::new("the paper's figures", 31, 24, 22);
@@ -129,23 +125,17 @@ fn factors(group: &mut Group) {
         (302, 1_000_000, 1_000_000),
     ];
     for (tenths, low, high) in factors {
-        let farm = Single {
-            line: MILLION_LINE,
-            tenths,
-            ..Single::paper(12)
-        };
-        let book = farm.book(|month| if month == 1 { MILLION_HEAD } else { 0 }, nothing);
+        let book = million(tenths, [0; 3]);
         let case = group.book(
             format!("the factor at {tenths} tenths"),
             &and(book, &[record(DR, &[1, 1])]),
         );
         case.states("entered", 1_000_000)
             .between("degraded", low, high);
-        if tenths == 302 {
+        if low == 1_000_000 {
             case.states("baseline", 3_427_200);
         }
     }
-    assert_eq!(MILLION_LINE[6], PAPER_LINE[6], "B0 24");
 }
 
 fn hours(group: &mut Group) {

@@ -3,14 +3,9 @@
 //! which ones an average is of.
 
 use super::Group;
-use crate::hours::{Hours, DEVICE_OUT, NO_CONTENT, NO_FLOW};
+use crate::hours::{Hours, DEVICE_OUT, LENGTHS, NEITHER, NO_CONTENT, NO_FLOW};
 
-const KINDS: [u8; 4] = [
-    NO_FLOW,
-    NO_CONTENT,
-    NO_FLOW | NO_CONTENT,
-    NO_FLOW | NO_CONTENT | DEVICE_OUT,
-];
+const KINDS: [u8; 4] = [NO_FLOW, NO_CONTENT, NEITHER, NEITHER | DEVICE_OUT];
 
 pub fn gaps() -> Group {
     let mut group = Group::new("gaps", 590, 590, 280);
@@ -25,8 +20,8 @@ pub fn gaps() -> Group {
         [NO_FLOW, NO_FLOW],
         [NO_CONTENT, NO_CONTENT],
         [NO_FLOW, NO_CONTENT],
-        [NO_FLOW | NO_CONTENT, NO_FLOW],
-        [NO_FLOW, NO_FLOW | NO_CONTENT],
+        [NEITHER, NO_FLOW],
+        [NO_FLOW, NEITHER],
     ] {
         for lengths in [[1, 1], [1, 5], [5, 1], [5, 5], [5, 6], [6, 5], [2, 3]] {
             for distance in 0..=5 {
@@ -39,7 +34,7 @@ pub fn gaps() -> Group {
 }
 
 fn near_an_end(group: &mut Group, kind: u8, length: usize, distance: usize) {
-    let count = [672, 696, 720, 744][(length + distance) % 4];
+    let count = LENGTHS[(length + distance) % LENGTHS.len()];
     let start = distance;
     let end = count - distance;
     for gap in [start..start + length, end - length..end] {

@@ -2,9 +2,8 @@
 //! made at random.
 
 use super::{Group, Program, SEED};
-use crate::hours::{hours, input, Hours, DEVICE_OUT, HIGHEST_STATE, NO_CONTENT, NO_FLOW};
-
-const LENGTHS: [usize; 4] = [672, 696, 720, 744];
+use crate::hours::{hours, input, Hours, LENGTHS};
+use crate::hours::{DEVICE_OUT, HIGHEST_STATE, NEITHER, NO_CONTENT, NO_FLOW};
 
 pub fn counts() -> Group {
     let mut group = Group::new("a month's hours and efficiency", 185, 15, 16);
@@ -140,7 +139,7 @@ const FAULTS: [fn(&mut Hours, usize); 3] = [
 /// The device was out in a gap, before it, after it or in all of these: its
 /// hours count nothing, and their readings feed the average.
 fn out_around_gaps(group: &mut Group) {
-    for missing in [NO_FLOW, NO_CONTENT, NO_FLOW | NO_CONTENT] {
+    for missing in [NO_FLOW, NO_CONTENT, NEITHER] {
         for gap in 1..=6 {
             for out in [
                 96..100,
