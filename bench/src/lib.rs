@@ -1,7 +1,8 @@
 //! The proved code and the second program side by side.
 //!
 //! `programs` holds the proved programs to the second one on made-up inputs,
-//! `library` the proved library, and `speed` takes the times of both sides.
+//! `library` the proved library, and `speed` takes the times of both sides;
+//! `hold` holds a changed second program to what the proved programs printed.
 //! Neither side knows of the other: the programs are run, the library is
 //! called by its C face, and the second program is a library of Rust.
 
