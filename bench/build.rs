@@ -1,4 +1,5 @@
-//! Says where the static library stands that `tests/staticlib` builds, for src/linked.rs.
+//! Says where the static library stands that `tests/staticlib` builds, for
+//! src/linked.rs.
 
 use std::path::Path;
 

@@ -62,7 +62,7 @@ struct cabinet_year {
     uint64_t credited;        /* tonnes: net, or 0 where net is below 0 */
 };
 
-/* A meter month. */
+/* A meter month. example/mt_record.h makes the MT record of it. */
 struct cabinet_month {
     uint64_t number;
     uint64_t place;

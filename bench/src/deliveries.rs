@@ -1,12 +1,14 @@
-//! What only the C face can be handed: records of any length, efficiencies of 32 bits, and slices of any lengths.
+//! What only the C face can be handed: records of any length, efficiencies of
+//! 32 bits, and slices of any lengths.
 
 use crate::book::RECORD_BYTES;
 use crate::hours::{hours, Hours};
 use crate::random::Random;
 use crate::streams::pieces;
 
-/// The records of a stream, and in some cases among them pieces of it that are shorter or longer than a record.
-pub fn deliveries(seed: u64, case: u64, stream: &[u8]) -> Vec<&[u8]> {
+/// The records of a stream, and in some cases among them pieces of it that are
+/// shorter or longer than a record.
+pub fn pieces_of(seed: u64, case: u64, stream: &[u8]) -> Vec<&[u8]> {
     let random = &mut Random::of_case(!seed, case);
     let mut pieces: Vec<&[u8]> = pieces(stream).collect();
     if random.once_in(10) {
@@ -24,7 +26,7 @@ pub fn deliveries(seed: u64, case: u64, stream: &[u8]) -> Vec<&[u8]> {
 }
 
 /// A meter month, with the efficiency as the C face takes it.
-pub fn months(seed: u64, case: u64) -> (Hours, u32) {
+pub fn month_of(seed: u64, case: u64) -> (Hours, u32) {
     let random = &mut Random::of_case(!seed, case);
     let mut hours = hours(seed, case);
     let efficiency = match random.below(50) {

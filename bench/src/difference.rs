@@ -17,12 +17,14 @@ pub struct Difference {
     pub input: Vec<u8>,
 }
 
-/// The memory that bench/driver.c lends: what it holds before, and how much is around a book and in all.
+/// The memory that bench/driver.c lends: what it holds before, and how much is
+/// around a book and in all.
 const UNTOUCHED: u8 = 0xa5;
 const AROUND_A_BOOK: usize = BOOK_BYTES + 2 * RECORD_BYTES;
 const LENT_BYTES: usize = 2 * AROUND_A_BOOK;
 
-/// The proved library by its driver; the second program's book, and the bytes that the proved one should then have.
+/// The proved library by its driver; the second program's book, and the bytes
+/// that the proved one should then have.
 pub struct Sides<'a> {
     driver: Driver,
     slots: &'a Slots,
@@ -105,7 +107,8 @@ impl Sides<'_> {
         }
     }
 
-    /// What differs after the records: in a year, or in the bytes of the book and around it.
+    /// What differs after the records: in a year, or in the bytes of the book
+    /// and around it.
     fn after(&self, delivery: &Delivery, delivered: &Delivered) -> Option<String> {
         for (&year, proved) in delivery.years.iter().zip(&delivered.years) {
             let plain = year_of(plain_year(&self.plain, year));
@@ -138,7 +141,8 @@ impl Sides<'_> {
         }
     }
 
-    /// Readings on both sides, as flows and as contents: by their digests, and one by one where those differ.
+    /// Readings on both sides, as flows and as contents: by their digests, and
+    /// one by one where those differ.
     pub fn readings(&mut self, patterns: Patterns) -> Result<(), String> {
         let mut digest = 0u64;
         for pattern in patterns.each() {

@@ -1,4 +1,5 @@
-//! A number for many, as bench/driver.c makes it: the sum over all places of what stands there, mixed with the place.
+//! A number for many, as bench/driver.c makes it: the sum over all places of
+//! what stands there, mixed with the place.
 
 pub fn mixed(place: u64, word: u64) -> u64 {
     let mut mix =

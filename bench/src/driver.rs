@@ -1,4 +1,5 @@
-//! The proved library, called from C by a process of its own (bench/driver.c): so it is looked at by its C face, on any machine.
+//! The proved library, called from C by a process of its own (bench/driver.c):
+//! so it is looked at by its C face, on any machine.
 
 use std::io::{BufReader, BufWriter, Read, Write};
 use std::path::Path;
@@ -13,7 +14,8 @@ const READINGS: u64 = 2;
 const EACH_READING: u64 = 3;
 const EMPTY: u64 = 4;
 
-/// Records of any lengths, posted past the refusals to an empty book that stands at an offset of lent memory, and the years asked of it.
+/// Records of any lengths, posted past the refusals to an empty book that
+/// stands at an offset of lent memory, and the years asked of it.
 pub struct Delivery<'a> {
     pub offset: usize,
     /// Whether the whole book is looked at after each record.
@@ -216,7 +218,8 @@ impl Driver {
         })
     }
 
-    /// Whether so many bytes at an offset of lent memory were made a book, and a digest of all of it.
+    /// Whether so many bytes at an offset of lent memory were made a book, and
+    /// a digest of all of it.
     pub fn empty(&mut self, offset: usize, bytes: usize) -> Result<(bool, u64), String> {
         self.ask(&[EMPTY, offset as u64, bytes as u64])?;
         self.end()?;

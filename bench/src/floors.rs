@@ -1,4 +1,5 @@
-//! How often each number was answered and at how many places, and the least of both that a run has to reach.
+//! How often each number was answered and at how many places, and the least of
+//! both that a run has to reach.
 
 use std::collections::BTreeSet;
 
@@ -11,7 +12,8 @@ pub struct Tally {
     places: [BTreeSet<u64>; NUMBERS],
 }
 
-/// The least that a number has to be answered in a thousand cases, and at how many places.
+/// The least that a number has to be answered in a thousand cases, and at how
+/// many places.
 pub struct Floor {
     pub number: usize,
     pub in_a_thousand: u64,
@@ -55,7 +57,8 @@ impl Tally {
         told.join(", ")
     }
 
-    /// Whether `cases` cases reach the floors, so that a run whose inputs have become poor fails.
+    /// Whether `cases` cases reach the floors, so that a run whose inputs have
+    /// become poor fails.
     pub fn reaches(&self, floors: &[Floor], cases: u64) -> Result<(), String> {
         if cases < CASES {
             return Ok(());

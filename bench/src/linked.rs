@@ -1,4 +1,5 @@
-//! The proved library in this process, by its C face (include/cabinet.h): on x86-64 alone, for which it is built.
+//! The proved library in this process, by its C face (include/cabinet.h): on
+//! x86-64 alone, for which it is built.
 
 use crate::cabinet::{Month, Posted, Year, BOOK_BYTES};
 
@@ -18,7 +19,8 @@ extern "C" {
     ) -> Month;
 }
 
-/// A book that only `cabinet_empty` and `cabinet_post` write, which is all that the contracts ask.
+/// A book that only `cabinet_empty` and `cabinet_post` write, which is all that
+/// the contracts ask.
 pub struct Book(Box<[u8]>);
 
 impl Book {

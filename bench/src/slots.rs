@@ -1,5 +1,6 @@
-//! Which slot of a book each key has. The C face promises no more than that a record taken fills its key's slot and nothing else; so the slots
-//! are learnt from a book that is filled key by key, and held to that from then on.
+//! Which slot of a book each key has. The C face promises no more than that a
+//! record taken fills its key's slot and nothing else; so the slots are learnt
+//! from a book that is filled key by key, and held to that from then on.
 
 use std::collections::HashMap;
 

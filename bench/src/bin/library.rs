@@ -3,7 +3,8 @@
 //!
 //!     library DRIVER [streams COUNT] [months COUNT] [floats] [temperatures] [cuts] [sizes] [seed SEED]
 //!
-//! DRIVER is bench/driver.c, built. Without a further word, all of it at the size that the tests run.
+//! DRIVER is bench/driver.c, built. Without a further word, all of it at the
+//! size that the tests run.
 
 use std::path::{Path, PathBuf};
 use std::process::ExitCode;
@@ -11,7 +12,7 @@ use std::thread;
 
 use bench::book::{record, whole, Extent, Record, HD, LN, PE, RECORD_BYTES, TP, YR};
 use bench::cabinet::BOOK_BYTES;
-use bench::deliveries::{deliveries, months};
+use bench::deliveries::{month_of, pieces_of};
 use bench::difference::{Difference, Sides};
 use bench::driver::{Delivered, Delivery, Driver, Patterns};
 use bench::floors::{Floor, Tally};
@@ -24,7 +25,8 @@ use bench::streams::{joined, pieces, stream};
 const USAGE: &str =
     "usage: library DRIVER [streams COUNT] [months COUNT] [floats] [temperatures] [cuts] [sizes] [seed SEED]";
 
-/// Where the library does not run on the processor itself but under an emulator, there is less of what is many.
+/// Where the library does not run on the processor itself but under an
+/// emulator, there is less of what is many.
 const EMULATED: bool = cfg!(not(target_arch = "x86_64"));
 const STREAMS: u64 = if EMULATED { 40_000 } else { 200_000 };
 const MONTHS_OF_HOURS: u64 = 20_000;
@@ -43,7 +45,8 @@ const fn floor(number: usize, in_a_thousand: u64, places: usize) -> Floor {
     }
 }
 
-/// Well below what the made-up cases give, and every place at which a record can be refused 3 or 4: so a run fails whose cases have come to be all
+/// Well below what the made-up cases give, and every place at which a record
+/// can be refused 3 or 4: so a run fails whose cases have come to be all
 /// refusals, or lack one.
 const RECORD_FLOORS: [Floor; 6] = [
     floor(0, 50_000, 0),
@@ -143,21 +146,10 @@ fn compare(asked: &Asked) -> Result<(), String> {
         every_key(run)?
     );
     if asked.streams > 0 {
-        let [records, years] = streams(run, seed, asked.streams)?;
-        println!("library: {} streams, seed {seed}", asked.streams);
-        println!("library: .. their records: {}", records.told("taken"));
-        println!("library: .. their years: {}", years.told("stated"));
-        records.reaches(&RECORD_FLOORS, asked.streams)?;
-        years.reaches(&YEAR_FLOORS, asked.streams)?;
+        streams(run, seed, asked.streams)?;
     }
     if asked.months > 0 {
-        let answers = meter_months(run, seed, asked.months)?;
-        println!(
-            "library: {} meter months, seed {seed}: {}",
-            asked.months,
-            answers.told("stated")
-        );
-        answers.reaches(&MONTH_FLOORS, asked.months)?;
+        meter_months(run, seed, asked.months)?;
     }
     if asked.floats {
         let patterns = floats(run)?;
@@ -239,21 +231,22 @@ fn every_key(run: &Run) -> Result<usize, String> {
     Ok(records.len())
 }
 
-/// The years that are asked for: those of the period and those beside it, three that would be years of it if they were cut to 8, 16 or 32 bits,
-/// and the last number.
+/// The years that are asked for: those of the period and those beside it, three
+/// that would be years of it if they were cut to 8, 16 or 32 bits, and the last
+/// number.
 fn years() -> Vec<u64> {
     let none = [(1 << 8) + 1, (1 << 16) + 2, (1 << 32) + 1, u64::MAX];
     (0..=11).chain(none).collect()
 }
 
-/// Each stream's postings, past its refusals, and its years: how each was answered.
-fn streams(run: &Run, seed: u64, count: u64) -> Result<[Tally; 2], String> {
-    run.on_workers(count, |sides, case, tallies| {
+/// Each stream's postings, past its refusals, and its years.
+fn streams(run: &Run, seed: u64, count: u64) -> Result<(), String> {
+    let [records, years] = run.on_workers(count, |sides, case, tallies| {
         let stream = stream(seed, case);
         let delivery = Delivery {
             offset: case as usize % RECORD_BYTES,
             watched: case / 10 % WATCHED_ONE_IN == 0,
-            pieces: &deliveries(seed, case, &stream),
+            pieces: &pieces_of(seed, case, &stream),
             years: &years(),
         };
         let delivered = sides
@@ -261,7 +254,12 @@ fn streams(run: &Run, seed: u64, count: u64) -> Result<[Tally; 2], String> {
             .map_err(|difference| kept("years", seed, case, difference))?;
         add(tallies, &delivered);
         Ok(())
-    })
+    })?;
+    println!("library: {count} streams, seed {seed}");
+    println!("library: .. their records: {}", records.told("taken"));
+    println!("library: .. their years: {}", years.told("stated"));
+    records.reaches(&RECORD_FLOORS, count)?;
+    years.reaches(&YEAR_FLOORS, count)
 }
 
 fn add([records, years]: &mut [Tally; 2], delivered: &Delivered) {
@@ -273,9 +271,9 @@ fn add([records, years]: &mut [Tally; 2], delivered: &Delivered) {
     }
 }
 
-fn meter_months(run: &Run, seed: u64, count: u64) -> Result<Tally, String> {
+fn meter_months(run: &Run, seed: u64, count: u64) -> Result<(), String> {
     let [answers, _] = run.on_workers(count, |sides, case, [answers, _]| {
-        let (hours, efficiency) = months(seed, case);
+        let (hours, efficiency) = month_of(seed, case);
         let month = sides.month(&hours, efficiency).map_err(|what| {
             let input = input(&hours);
             kept("month", seed, case, Difference { what, input })
@@ -283,7 +281,9 @@ fn meter_months(run: &Run, seed: u64, count: u64) -> Result<Tally, String> {
         answers.add(month.number, month.place);
         Ok(())
     })?;
-    Ok(answers)
+    let told = answers.told("stated");
+    println!("library: {count} meter months, seed {seed}: {told}");
+    answers.reaches(&MONTH_FLOORS, count)
 }
 
 /// How many patterns were read.
@@ -318,7 +318,8 @@ fn stepped(step: u32) -> Vec<Patterns> {
         .collect()
 }
 
-/// Every thirty-first pattern, and all those beside the ends of an exponent, of either sign, and beside the most that a flow or a content may be.
+/// Every thirty-first pattern, and all those beside the ends of an exponent, of
+/// either sign, and beside the most that a flow or a content may be.
 fn sampled_patterns() -> Vec<Patterns> {
     const STEP: u32 = 31;
     const BESIDE: u32 = 1 << 11;
