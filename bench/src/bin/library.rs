@@ -33,7 +33,8 @@ const MONTHS_OF_HOURS: u64 = 20_000;
 const SEED: u64 = 2_011;
 const WORKERS: u64 = 2;
 
-/// The whole book is looked at after each record of ten streams in so many times ten.
+/// The whole book is looked at after each record of one stream in so many: ten
+/// in a row, so that every kind of stream is among them.
 const WATCHED_ONE_IN: u64 = 50;
 
 /// What a run has to have of a number.
