@@ -7,7 +7,7 @@ use Rattle.keys.specs.Number.{recordBytes}
 use Rattle.book.specs.{Run.recordsOf, declared.Posted.Posted, declared.Posted.the-variants.Taken, declared.Posted.the-variants.Refused as RefusedRecord}
 use Rattle.feed.specs.declared.Fed.{Fed, the-variants.Held, the-variants.Refused}
 
--- how many of n bytes are whole records, and those records among a block's first n bytes
+-- how many of n bytes belong to whole records; and the whole records among a block's first n bytes
 abbrev pub wholeBytes : ℕ → ℕ
 wholeBytes n = n / recordBytes * recordBytes
 

@@ -1,4 +1,4 @@
--- What posting a whole input comes to (01, "Figures to check": the year program). Assumes nothing.
+-- What posting a whole input gives (01, "Figures to check": the year program). Assumes nothing.
 use Prim.Native.Nat.{ℕ}
 use mathlib.Core.{Path._≡_, List.List}
 use Rattle.book.specs.{Run.recordsOf, Run.answerAll, Run.bookAll}
@@ -16,7 +16,7 @@ endingBy (RefusedRecord number place) = Refused number place
 unfoldable pub endingOf : List ℕ → List ℕ → Ending
 endingOf book input = endingBy (answerAll book (recordsOf input))
 
--- some input came, and then a read failed, or it ended so; and the book afterwards is what its records make of the one before
+-- some input came; then a read failed, or the reading ended as the input's records decide. The book afterwards is what those records make of the book before
 pub data Comes (book : List ℕ) : Ending → List ℕ → Type 0 where
   unread : (input : List ℕ) {later : List ℕ} → later ≡ bookOf book input → Comes book Failed later
   read : (input : List ℕ) {ending : Ending} {later : List ℕ} → ending ≡ endingOf book input → later ≡ bookOf book input → Comes book ending later

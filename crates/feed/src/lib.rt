@@ -18,14 +18,14 @@ pub enum Ending {
     Failed,
 }
 
-// What posting a block came to: so many bytes of a record that the block's end cut are held for the next block.
+// What posting a block gave: the number of bytes of a cut record that are held for the next block, or a refusal.
 enum Fed {
     Held(usize),
     Refused(u8, usize),
 }
 
-// Posts standard input to a book, block by block, until it ends or a record is refused. It needs no count of
-// its turns to end: a record taken fills a slot, and a book has only so many.
+// Posts standard input to a book, block by block, until it ends or a record is refused. The loop ends without a
+// count of its turns: each record that is taken fills a slot, and the number of slots is fixed.
 pub fn post_input(book: &mut [u8], block: &mut [u8]) -> Ending
     requires { ⌜ Valid (now book) ⌝ }
     requires { ⌜ recordBytes ≤ length (now block) ⌝ }
@@ -51,7 +51,7 @@ pub fn post_input(book: &mut [u8], block: &mut [u8]) -> Ending
     }
 }
 
-// Posts the whole records among a block's first bytes, and carries the bytes of a cut one to its start.
+// Posts the whole records among a block's first bytes, and moves the bytes of a cut one to the block's start.
 fn post_block(book: &mut [u8], block: &mut [u8], filled: usize) -> Fed
     requires { ⌜ Valid (now book) ⌝ }
     requires { ⌜ filled ≤ length (now block) ⌝ }
@@ -66,7 +66,7 @@ fn post_block(book: &mut [u8], block: &mut [u8], filled: usize) -> Fed
     }
 }
 
-// Carries the bytes from one place to another to the block's start, and returns how many.
+// Moves the bytes between two places to the block's start, and returns their number.
 fn carry(block: &mut [u8], from: usize, to: usize) -> usize
     requires { ⌜ (from ≤ to) × (to ≤ length (now block)) ⌝ }
     ensures { λ r. ⌜ r ≡ to - from ⌝ }

@@ -20,12 +20,12 @@ longestBytes = headerBytes + (floatBytes + floatBytes + 1) * mostHours
 abbrev pub isOtherMark : List ℕ → Bool
 isOtherMark input = leb 2 (length input) && not (eqb (getD input 0 0) (code "C") && eqb (getD input 1 0) (code "M"))
 
--- so many floats, from `at` on
+-- `count` floats, from `at` on
 unfoldable pub floatsAt : List ℕ → ℕ → ℕ → List Float
 floatsAt input at zero = []
 floatsAt input at (suc count) = floatAt input at ∷ floatsAt input (at + floatBytes) count
 
--- the month of an input that has so many flows and contents, and states from there on
+-- the month of an input with this number of flows and of contents; the rest are states
 unfoldable pub lentOf : List ℕ → ℕ → ℕ → MonthAnswer
 lentOf input flows contents =
     let states = headerBytes + floatBytes * flows + floatBytes * contents in

@@ -54,7 +54,7 @@ pub fn stated(input: &[u8]) -> MonthAnswer
     lent(input, flows, contents)
 }
 
-// The month of an input that has so many flows and contents, and states from there on.
+// The month of an input with this number of flows and of contents; the rest are states.
 fn lent(input: &[u8], flows: usize, contents: usize) -> MonthAnswer
     requires { ⌜ headerBytes + floatBytes * flows + floatBytes * contents ≤ length (now input) ⌝ }
     ensures { λ r. ⌜ r ≡ lentOf (now (input .entry)) flows contents ⌝ }
@@ -90,7 +90,7 @@ fn is_other_mark(input: &[u8]) -> bool
     input[1] != b'M'
 }
 
-// So many floats of the input, from `at` on.
+// Floats of the input, one after the other from `at` on.
 fn floats(input: &[u8], at: usize, count: usize) -> [f32; series::MOST_HOURS]
     requires { ⌜ (count ≤ mostHours) × (at + floatBytes * count ≤ length (now input)) ⌝ }
     ensures { λ r. ⌜ length r ≡ mostHours ⌝ }

@@ -1,9 +1,9 @@
--- What a read gives. Of the bytes themselves no contract of the system's can speak. Assumes nothing.
+-- What a read gives. Which bytes it reads no contract can say. Assumes nothing.
 use Prim.Native.Nat.{ℕ, _≤_, min}
 use lib.IntN.{ℤ, pos, negsuc}
 use Rattle.input.specs.declared.Got.{Got, the-variants.Bytes, the-variants.Failed}
 
--- what a read's answer says, into so many bytes of room: below 0 it failed, and 0 is the end of the input
+-- what the answer of a read into `room` bytes says: below 0, that it failed; else the number of bytes, and 0 at the end of the input
 abbrev pub gotBy : ℤ → ℕ → Got
 gotBy (pos count) room = Bytes (min count room)
 gotBy (negsuc n) room = Failed

@@ -8,13 +8,13 @@ use libc::STDIN_FILENO;
 // How often a read that a signal interrupts is tried again.
 const TRIES: u64 = 1_000_000;
 
-// What a read gave: so many bytes, none at the input's end.
+// What a read gave: a number of bytes, 0 at the input's end; or that it failed.
 pub enum Got {
     Bytes(usize),
     Failed,
 }
 
-// Reads once behind the bytes that are held, or again where a signal came first.
+// Reads once, to the place after the bytes that are held; where a signal interrupts the read, again.
 pub fn read_more(block: &mut [u8], held: usize) -> Got
     requires { ⌜ held < length (now block) ⌝ }
     ensures { λ r. ⌜ Room r (length (now (block .entry)) - held) ⌝ }
@@ -24,10 +24,10 @@ pub fn read_more(block: &mut [u8], held: usize) -> Got
     while 0 < tries {
         let answer = libc::read(STDIN_FILENO, &mut block[held..]);
         if 0 <= answer {
-            return told(answer, &block[held..]);
+            return answered(answer, &block[held..]);
         }
         if os::errno() != libc::EINTR {
-            return told(answer, &block[held..]);
+            return answered(answer, &block[held..]);
         }
         tries -= 1;
     }
@@ -35,7 +35,7 @@ pub fn read_more(block: &mut [u8], held: usize) -> Got
 }
 
 // What a read's answer says: below 0 it failed, and is not taken for the end of the input.
-fn told(answer: isize, room: &[u8]) -> Got
+fn answered(answer: isize, room: &[u8]) -> Got
     ensures { λ r. ⌜ r ≡ gotBy answer (length (now (room .entry))) ⌝ }
 {
     if answer < 0 {

@@ -1,7 +1,7 @@
 // One meter month from standard input, to one line on standard output: `destroyed N`, or `refused N at P`.
 //
 // The input is read until it ends, or until it is longer than the longest month: what would follow changes nothing (`proofs/Long.antt` of `format`). A read
-// that fails is not taken for the input's end: it is told on standard error, and no figure is printed.
+// that fails is not taken for the input's end: a line on standard error says so, and no figure is printed.
 ghost use Prim.Native.Nat.{_<_};
 ghost use lib.ListN.{length};
 ghost use Rattle.input.specs.Got.{Room};
@@ -16,7 +16,7 @@ mod line;
 // One byte more than the longest month has, so that a longer input shows.
 const BUFFER: usize = format::LONGEST + 1;
 
-// What standard input came to: the answer for its month, or that a read failed.
+// The answer for the month that standard input holds, or that a read failed.
 enum Outcome {
     Stated(MonthAnswer),
     Failed,

@@ -13,7 +13,7 @@ use libc::STDOUT_FILENO;
 // How many bytes are read at a time, at most: 4,096 records.
 const BLOCK: usize = 65_536;
 
-// What standard input came to: the end of what is laid for it, or that a read failed.
+// The end of the text that is laid for standard input, or that a read failed.
 enum Outcome {
     Laid(usize),
     Failed,

@@ -41,17 +41,17 @@ front :
 front c =
     take-put (c .before .before .before .before .before .args .held) (length (c .before .before .before .loop .block) - c .before .before .before .before .before .args .held) (c .before .before .before .loop .block) (c .read .last .1 .0) (omega (arith, c .before .before .before .before .before .pre, c .before .before .before .loop .inv .0)) ∙ c .before .before .before .loop .inv .1
 
-sub-told : tie.Need-sub-told Inv-loop μ-loop
-sub-told c = search needs
+sub-answered : tie.Need-sub-answered Inv-loop μ-loop
+sub-answered c = search needs
 
-part-told-start : tie.Need-part-told-start Inv-loop μ-loop
-part-told-start c = search needs
+part-answered-start : tie.Need-part-answered-start Inv-loop μ-loop
+part-answered-start c = search needs
 
-part-told-end : tie.Need-part-told-end Inv-loop μ-loop
-part-told-end c = search needs
+part-answered-end : tie.Need-part-answered-end Inv-loop μ-loop
+part-answered-end c = search needs
 
-told-requires : tie.Need-told-requires Inv-loop μ-loop
-told-requires c κs = tt
+answered-requires : tie.Need-answered-requires Inv-loop μ-loop
+answered-requires c κs = tt
 
 same-length : tie.Need-same-length Inv-loop μ-loop
 same-length c = search needs
@@ -60,7 +60,7 @@ returns : tie.Need-returns Inv-loop μ-loop
 returns c =
     let held = c .before .before .before .before .before .before .before .before .before .before .before .args .held in
     let after : List ℕ = putMid held (length (c .before .before .before .before .before .before .before .before .before .loop .block) - held) (c .before .before .before .before .before .before .before .before .before .loop .block) (c .before .before .before .before .before .before .read .last .1 .0) in (
-      rw (c .told .ensures)
+      rw (c .answered .ensures)
           (roomy (toZ w64 (ofZ w64 (c .before .before .before .before .before .before .read .result))) (length (take (length after - held) (drop held after))) (length (c .before .before .before .before .before .before .before .before .before .before .before .args .block .now) - held) (search needs)),
       front (c .before .before .before .before .before .before),
     )
@@ -68,17 +68,17 @@ returns c =
 errno-requires : tie.Need-errno-requires Inv-loop μ-loop
 errno-requires c κs = tt
 
-sub-told-2 : tie.Need-sub-told-2 Inv-loop μ-loop
-sub-told-2 c = search needs
+sub-answered-2 : tie.Need-sub-answered-2 Inv-loop μ-loop
+sub-answered-2 c = search needs
 
-part-told-start-2 : tie.Need-part-told-start-2 Inv-loop μ-loop
-part-told-start-2 c = search needs
+part-answered-start-2 : tie.Need-part-answered-start-2 Inv-loop μ-loop
+part-answered-start-2 c = search needs
 
-part-told-end-2 : tie.Need-part-told-end-2 Inv-loop μ-loop
-part-told-end-2 c = search needs
+part-answered-end-2 : tie.Need-part-answered-end-2 Inv-loop μ-loop
+part-answered-end-2 c = search needs
 
-told-requires-2 : tie.Need-told-requires-2 Inv-loop μ-loop
-told-requires-2 c κs = tt
+answered-requires-2 : tie.Need-answered-requires-2 Inv-loop μ-loop
+answered-requires-2 c κs = tt
 
 same-length-2 : tie.Need-same-length-2 Inv-loop μ-loop
 same-length-2 c = search needs
@@ -87,7 +87,7 @@ returns-2 : tie.Need-returns-2 Inv-loop μ-loop
 returns-2 c =
     let held = c .before .before .before .before .before .before .before .before .before .before .before .before .before .args .held in
     let after : List ℕ = putMid held (length (c .before .before .before .before .before .before .before .before .before .before .before .loop .block) - held) (c .before .before .before .before .before .before .before .before .before .before .before .loop .block) (c .before .before .before .before .before .before .before .before .read .last .1 .0) in (
-      rw (c .told2 .ensures)
+      rw (c .answered2 .ensures)
           (roomy (toZ w64 (ofZ w64 (c .before .before .before .before .before .before .before .before .read .result))) (length (take (length after - held) (drop held after))) (length (c .before .before .before .before .before .before .before .before .before .before .before .before .before .args .block .now) - held) (search needs)),
       front (c .before .before .before .before .before .before .before .before),
     )
@@ -118,17 +118,17 @@ read-more-spec =
     part-read-start
     part-read-end
     read-requires
-    sub-told
-    part-told-start
-    part-told-end
-    told-requires
+    sub-answered
+    part-answered-start
+    part-answered-end
+    answered-requires
     same-length
     returns
     errno-requires
-    sub-told-2
-    part-told-start-2
-    part-told-end-2
-    told-requires-2
+    sub-answered-2
+    part-answered-start-2
+    part-answered-end-2
+    answered-requires-2
     same-length-2
     returns-2
     sub-tries

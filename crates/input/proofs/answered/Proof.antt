@@ -12,8 +12,8 @@ use mir.Facts.{toZ-ofZ}
 use Rattle.io.specs.Counts.{clamped}
 use Rattle.input.specs.Got.{gotBy}
 use Rattle.input.specs.declared.Got.the-variants.{Bytes, Failed}
-use Rattle.input.proofs.told.Statement.{statement}
-use Rattle.input.proofs.told.Tie as tie
+use Rattle.input.proofs.answered.Statement.{statement}
+use Rattle.input.proofs.answered.Tie as tie
 
 failed : (z : ℤ) (n : ℕ) → ltZ z (pos 0) ≡ true → Failed ≡ gotBy z n
 failed (pos k) n t = let e : ⊥ = omega (arith, ltb-true k 0 t) in absurd e
@@ -37,5 +37,5 @@ returns-2 c =
     let e = toZ-ofZ (s .fits .answer) in
     came (s .args .answer) (length (s .args .room .now)) (c .count .result) (subst (λ (z : ℤ). ltZ z (pos 0) ≡ false) e (c .before .if1 .left)) (c .count .ensures .1 ∙ ap (λ (z : ℤ). clamped z (length (s .args .room .now))) e)
 
-pub told-spec : {M : Type 1} → statement M
-told-spec = tie.close (tie.spec returns count-requires returns-2)
+pub answered-spec : {M : Type 1} → statement M
+answered-spec = tie.close (tie.spec returns count-requires returns-2)
