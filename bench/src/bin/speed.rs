@@ -19,8 +19,7 @@ use second::book::Book as PlainBook;
 const ROUNDS: usize = 300;
 
 /// The most that proved / plain may be on any line. Measured were 0.38 to 0.88,
-/// on two machines with neighbours at work: past this it is the code that has
-/// become slow.
+/// on two machines; the room above that is for busy ones.
 const MOST_RATIO: f64 = 1.5;
 
 fn main() -> ExitCode {
