@@ -17,7 +17,7 @@ emptyOf = record { 0 = solids 0 }
 abbrev pub availableOf : Standing → Month → ℕ
 availableOf standing month = month .entered .0 + standing .0 .0
 
--- degraded: so many millionths of it
+-- degraded: available x factor / 1,000,000
 abbrev pub degradedOf : Standing → Month → ℕ
 degradedOf standing month = shareOf (availableOf standing month) (month .factor) million
 

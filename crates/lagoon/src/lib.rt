@@ -53,7 +53,7 @@ impl Standing {
         self.0
     }
 
-    // The available degrades by the factor. What is left is removed if the line was drained, and else
+    // What is available degrades by the factor. The rest is removed if the line was drained, and else
     // carried on: each gram goes one way.
     pub fn month(self, month: Month) -> Outcome
         requires { ⌜ (availableOf self month < gramsMost) × (month .factor ≤ million) ⌝ }

@@ -25,10 +25,10 @@ const LINES: usize = keys::LINES;
 // LN's system 0.
 const ANAEROBIC: u64 = 0;
 
-// Twelve, for the average of the year's heads, times what brings the fields' units to grams.
+// 12, for the average of the year's heads, times 10,000,000, which brings the fields' units to grams.
 const DAILY_PARTS: u64 = 120_000_000;
 
-// In leap years too.
+// A year counts 365 days, in leap years too.
 const DAYS_IN_YEAR: u64 = 365;
 
 // A conversion factor counts ten-thousandths.
@@ -95,8 +95,8 @@ fn sums_from(book: &[u8], year: usize, before: [Standing; LINES]) -> LinesYear
     LinesYear { sums, standings }
 }
 
-// One line, by its system, from the standing that the year before handed on. Of another system than the
-// anaerobic, nothing stands.
+// One line, by its system, from the standing that the year before handed on. A line of another system than
+// the anaerobic has no standing: the one it is given is handed on as it is, and nothing reads it.
 fn line_in(
     book: &[u8],
     year: usize,

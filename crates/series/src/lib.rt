@@ -1,4 +1,4 @@
-// A month's series: whole numbers recorded hour by hour, or missing; what they count is nothing to this crate.
+// A month's series: whole numbers recorded hour by hour, or missing, whatever they count.
 ghost use mathlib.Core.Path.{_≡_};
 ghost use Prim.Native.Nat.{_≤_};
 ghost use Rattle.series.specs.Series.{isRecorded, valueOf, series, amount, mostAmount};
@@ -32,7 +32,7 @@ pub fn read(slot: u64) -> Value
     }
 }
 
-// The number that is read as a value.
+// The number that stands for a value in the array: what `read` reads as it.
 pub fn slot(value: Value) -> u64
     requires { ⌜ amount value ≤ mostAmount ⌝ }
     ensures { λ r. ⌜ valueOf r ≡ value ⌝ }

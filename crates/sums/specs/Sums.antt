@@ -1,4 +1,4 @@
--- What a line comes to in a year, and lines together: solids of the anaerobic ones, and the baseline of all (01, "The year").
+-- The sums of a year over one line, and over two together: solids of the anaerobic ones, and the baseline of all (01, "The year").
 use Prim.Native.Nat.{ℕ, _+_}
 use Rattle.units.specs.{Grams.solids, Grams.co2e, Grams.potential, Grams.b0RuleOf, declared.co2e.Co2e.Co2e}
 use Rattle.run.specs.declared.Totals.{Totals}
@@ -15,7 +15,7 @@ anaerobicOf totals b0 =
       baseline = b0RuleOf (totals .degraded) b0 potential;
     }
 
--- another line has no solids of its own among the sums
+-- a line of another system adds no solids to the sums
 abbrev pub baselineAlone : Co2e → Sums
 baselineAlone baseline =
     record { entered = solids 0; degraded = solids 0; removed = solids 0; carried = solids 0; baseline = baseline }

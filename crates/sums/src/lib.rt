@@ -1,4 +1,4 @@
-// What lines of a year come to, singly or together: the solids of the anaerobic ones, and the baseline of
+// The sums of a year over one line, or over several: the solids of the anaerobic ones, and the baseline of
 // all.
 ghost use mathlib.Core.Path.{_≡_};
 ghost use Prim.Native.Nat.{_+_, _≤_, _<_, _^_};
