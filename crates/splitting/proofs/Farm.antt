@@ -1,10 +1,9 @@
 -- A farm that shows where the bounds are reached. 326 head are there in January 2011 and none after it; the lagoon has 20.0 degrees in 2011 and 30.2 in 2012, and is
--- never drained; table solids 100, mass 1000, share 10,000, B0 51. It is entered as one line, or as two lines of 163 head. The same books are in
--- sample/splitting. Assumes nothing.
+-- never drained; table solids 100, mass 1000, share 10,000, B0 51. It is entered as one line, or as two lines of 163 head. As books the farm
+-- is in sample/splitting. Assumes nothing.
 use Prim.Native.Nat.{ℕ, _+_, _*_}
 use mathlib.Core.Bool.{Bool, true, false, cond}
 use mathlib.Core.Path.{_≡_, refl}
-use native.Mathlib.Omega.{arith}
 use lib.Dec.{eqb, leb}
 use lib.IntN.{ℤ, pos}
 use Rattle.laws.specs.Counting.{sum}
@@ -36,7 +35,7 @@ farm head m =
 abbrev pub stated : ℕ → ℕ → ℕ
 stated head year = b0RuleOf (yearOf (farm head) year .degraded) 51 potential .0
 
--- it is a split as the theorems ask for it, in every month
+-- in every month it is a split, as the theorems ask
 pub farm-split : (m : ℕ) → Split (farm 326 m) (farm 163 m) (farm 163 m)
 unfolding farm
 farm-split m =
@@ -61,7 +60,7 @@ pub gram-ahead : statedOver (farm 163) 51 0 2 + statedOver (farm 163) 51 0 2 ≡
 unfolding sum
 gram-ahead = rw (baselines .0, baselines .1, baselines .2, baselines .3)
 
--- The year's net where the operator enters so many kilograms of baseline carbon dioxide, and so much methane was destroyed that the modelled one is the lesser.
+-- A year's net, where the operator enters so many kilograms of baseline carbon dioxide and so many grams of destroyed methane.
 abbrev pub entered : ℕ → ℕ → Operator
 entered kilograms grams = record { «project_methane» = co2e 0; «baseline_co2» = co2e (kilogram * kilograms); «project_co2» = co2e 0; destroyed = methane grams }
 

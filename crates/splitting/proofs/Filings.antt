@@ -53,7 +53,7 @@ pub record WithinATonne (whole split : Figures) : Type 0 where
   pub credited-gained : split .credited ≤ whole .credited + 1
   pub credited-lost : whole .credited ≤ split .credited + 1
 
-net-within :
+pub net-within :
     (one other : List ℕ) (year more : ℕ) → operatorOf other year ≡ operatorOf one year → baselineOf other year all ≤ baselineOf one year all + more →
     AtMost (netIn other year) (netIn one year) ((more + (tonne - 1)) / tonne)
 unfolding figuresOf
@@ -64,7 +64,7 @@ net-within one other year more same ahead =
     (sym same) (net-more (total-more (baselineOf one year all) (baselineOf other year all) more (operatorOf one year) ahead))
 
 -- the two books' baselines are as far apart as the line's and its parts'
-differ :
+pub differ :
     (whole split : List ℕ) (line first second year : ℕ) → OneFiling whole split line first second year →
     baselineOf split year all + baselineIn (lineAt whole line) year ≡
     baselineOf whole year all + baselineIn (lineAt split first) year + baselineIn (lineAt split second) year

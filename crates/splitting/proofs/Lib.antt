@@ -7,3 +7,4 @@ pub mod Tonnes
 pub mod Farm
 pub mod Others
 pub mod Filings
+pub mod OtherSystem

@@ -74,7 +74,7 @@ pub record SplitMonth (whole first second : LineOf) (m : ℕ) : Type 0 where
   pub second-month : SameMonth second whole m
 
 -- Of what enters in two parts, each rounded down by itself, at most a gram is lost against the whole.
-share-first : (head solids mass share : ℕ) → head * solids * mass * share ≡ head * share * solids * mass
+pub share-first : (head solids mass share : ℕ) → head * solids * mass * share ≡ head * share * solids * mass
 share-first head solids mass share = rw (mul-right-comm (head * solids) mass share, mul-right-comm head solids share)
 
 pub entered-apart :

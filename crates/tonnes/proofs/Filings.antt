@@ -1,5 +1,5 @@
 -- Two separate filings against one filing of both: the two state at most one tonne more, and at most one less. The examples reach each of the two. Where
--- one filing is below 0 nothing bounds what the two are credited above the one, since credited tonnes are never below 0: the last example.
+-- one filing is below 0 nothing bounds what the two are credited above the one, since credited tonnes are never below 0: the last theorem.
 -- Assumes nothing.
 use mathlib.Core.Path.{_≡_, refl}
 use Prim.Native.Nat.{ℕ, _+_, _*_, _≤_}
