@@ -54,14 +54,6 @@ module _ (whole first second : ℕ → Month) (from from-1 from-2 : Standing) (m
       (beside n (λ m low high. adds m low (omega arith)) (λ m low high. small m low (omega arith)))
       (whole (suc n) .drained))
 
--- the parts' entries add up over the months too
-pub entered-adds-up :
-    (whole first second : ℕ → Month) (n : ℕ) →
-    Through n (λ m. AddsUp (whole m) (first m) (second m)) →
-    Through n (λ m. whole m .factor ≤ million) →
-    runOf whole n .entered .0 ≡ runOf first n .entered .0 + runOf second n .entered .0
-entered-adds-up whole first second n adds small = beside whole first second emptyOf emptyOf emptyOf 0 refl n adds small .entered
-
 pub demand-3 :
     (whole first second : ℕ → Month) (n : ℕ) →
     Through n (λ m. AddsUp (whole m) (first m) (second m)) →
