@@ -11,7 +11,6 @@ ghost use Rattle.book.specs.Book.{bookBytes, free, filledWith, answerOf,
 ghost use Rattle.book.specs.Valid.{Valid};
 ghost use Rattle.book.specs.Run.{recordsOf, answerAll, bookAll};
 
-// How many bytes a book has.
 pub const BYTES: usize = keys::SLOTS * keys::RECORD;
 
 const ALREADY_FILLED: u8 = 5;

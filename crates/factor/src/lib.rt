@@ -28,7 +28,6 @@ pub fn factor(tenths: i16) -> u64
     MILLION
 }
 
-// The temperature of the table's first entry.
 const FIRST_ENTRY: usize = COLD_END as usize;
 
 // The only function that names the table: a constant array is built in the frame of each function that names it.

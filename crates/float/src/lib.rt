@@ -5,7 +5,6 @@ ghost use lib.ListN.{length};
 ghost use lib.Ieee.{binary32, ofBits};
 ghost use Rattle.float.specs.Float.{floatBytes, floatAt};
 
-// The bytes of a float.
 pub const FLOAT: usize = 4;
 
 // The float of the four bytes from `at` on.

@@ -20,19 +20,16 @@ const HEADER: usize = 10;
 // The bytes of the longest month (`longestBytes`): for each of its hours a flow, a content and a state.
 pub const LONGEST: usize = HEADER + (FLOAT + FLOAT + 1) * series::MOST_HOURS;
 
-// Where the efficiency stands.
+// The offsets of the header's four numbers.
 const EFFICIENCY_AT: usize = 2;
 
-// Where the number of flows stands.
 const FLOWS_AT: usize = 4;
 
-// Where the number of contents stands.
 const CONTENTS_AT: usize = 6;
 
-// Where the number of states stands.
 const STATES_AT: usize = 8;
 
-// The bytes of the efficiency, and of a count.
+// The bytes of each of them.
 const HALF: usize = 2;
 
 // The month that the input holds, stated or refused.

@@ -12,7 +12,6 @@ ghost use Rattle.book.specs.Valid.{Valid};
 ghost use Rattle.slots.specs.Field.{seenAt};
 ghost use Rattle.herd.specs.Herd.{systemOf, categoryOf, lineOf, headOf, drainedOf};
 
-// The numbers of a line.
 pub struct Line {
     pub system: u64,
     pub category: u64,
@@ -67,7 +66,6 @@ pub fn drained(book: &[u8], line: usize, month: usize) -> bool
     slots::filled(book, keys::drain_slot(line, month))
 }
 
-// One field of a line's slot.
 fn line_field(book: &[u8], line: usize, entry: Field) -> Seen
     requires { ⌜ (Valid (now book)) × (line ≤ lines) × (entry .0 + entry .1 ≤ recordBytes) × (entry .1 ≤ 8) ⌝ }
     ensures { λ r. ⌜ r ≡ seenAt (now (book .entry)) (slotOf ln (line ∷ [])) (entry .0) (entry .1) ⌝ }

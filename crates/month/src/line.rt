@@ -5,7 +5,6 @@ ghost use Rattle.page.specs.Page.{Lays};
 ghost use Rattle.month.specs.Line.{destroyedLine, lineOf, lineBytes};
 use meter::MonthAnswer;
 
-// The most bytes of the line.
 pub const LINE_BYTES: usize = 36;
 
 // Lays the line at the start of a page, and returns its length.

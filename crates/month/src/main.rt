@@ -61,7 +61,6 @@ fn read_input(buffer: &mut [u8]) -> Got
     Got::Bytes(held)
 }
 
-// Prints the one line.
 fn print(answer: MonthAnswer) {
     let mut page = [0u8; line::LINE_BYTES];
     let end = line::line(answer, &mut page);

@@ -12,7 +12,6 @@ use slots::Warmth;
 // Twelve to a year of the crediting period, whichever month it starts with.
 pub const MONTHS_IN_YEAR: usize = 12;
 
-// Whether a slot was ever filled.
 pub fn is_filled(seen: Seen) -> bool
     ensures { λ r. ⌜ r ≡ filled seen ⌝ }
 {
@@ -32,7 +31,6 @@ pub fn amount(seen: Seen) -> u64
     }
 }
 
-// The number of months before a year.
 pub fn months_before(year: usize) -> usize
     requires { ⌜ InPeriod year ⌝ }
     ensures { λ r. ⌜ r ≡ monthsBefore year ⌝ }
@@ -40,7 +38,6 @@ pub fn months_before(year: usize) -> usize
     MONTHS_IN_YEAR * (year - 1)
 }
 
-// The number of months to the end of a year.
 pub fn months_through(year: usize) -> usize
     requires { ⌜ InPeriod year ⌝ }
     ensures { λ r. ⌜ r ≡ monthsThrough year ⌝ }

@@ -14,13 +14,12 @@ pub enum Measure {
 // A flow is read in cubic metres, and counted in litres.
 const LITRES_IN_CUBIC_METRE: u32 = 1_000;
 
-// The largest flow of an hour.
+// The largest flow of an hour, and the largest content.
 const MOST_CUBIC_METRES: u32 = 100_000;
 
 // A content is read in per cent, and counted in hundredths of one.
 const HUNDREDTHS_IN_ONE: u32 = 100;
 
-// The largest content.
 const MOST_PER_CENT: u32 = 100;
 
 // A flow as whole litres.

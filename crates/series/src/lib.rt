@@ -9,7 +9,6 @@ pub enum Value {
     Missing,
 }
 
-// The hours of the longest month.
 pub const MOST_HOURS: usize = 744;
 
 pub fn is_recorded(value: Value) -> bool

@@ -93,7 +93,6 @@ fn project_field(book: &[u8], month: usize, entry: Field) -> Seen
     read(book, keys::project_slot(month), entry)
 }
 
-// One field of one slot.
 pub fn read(book: &[u8], slot: usize, entry: Field) -> Seen
     requires { ⌜ (Valid (now book)) × (slot < slots) × (entry .0 + entry .1 ≤ recordBytes) × (entry .1 ≤ 8) ⌝ }
     ensures { λ r. ⌜ r ≡ seenAt (now (book .entry)) slot (entry .0) (entry .1) ⌝ }

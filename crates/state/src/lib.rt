@@ -12,19 +12,15 @@ pub enum Reading {
     Neither,
 }
 
-// What is added to a state when the device was out. What is left says which values are there; 3 says neither.
+// 4 is added to a state when the device was out. What is left says which values are there: 3 says neither.
 const OUT: u8 = 4;
 
-// The state of an hour with flow and content.
 const BOTH: u8 = 0;
 
-// The state of an hour with a content alone.
 const NO_FLOW: u8 = 1;
 
-// The state of an hour with a flow alone.
 const NO_CONTENT: u8 = 2;
 
-// Whether the device was out.
 pub fn is_out(state: u8) -> bool
     ensures { λ r. ⌜ r ≡ isOut state ⌝ }
 {
