@@ -23,6 +23,7 @@ use Rattle.book.proofs.Free.{free-same}
 use Rattle.book.proofs.Kept.{kept, same-or-not}
 use Rattle.book.proofs.Letters.{held-filled}
 use Rattle.postings.specs.Each.{bookEach}
+use Rattle.postings.proofs.Own.{taken-fills}
 
 -- a record that has nothing left to fill: refused on its own account, or its slot is filled
 pub data Spent (book r : List ℕ) : Type 0 where
@@ -108,6 +109,21 @@ spent book v (s ∷ rs) r m =
 -- a record posted again is refused, and leaves the book as it is
 pub refused-again : (book : List ℕ) → Valid book → (rs : List (List ℕ)) (r : List ℕ) → List·Memᴰ r rs → Turned (bookEach book rs) r
 refused-again book v rs r m = turned (spent book v rs r m)
+
+-- and one that was taken is refused 5, whatever was posted since
+stays-each : (book : List ℕ) → Valid book → (ss : List (List ℕ)) (k : ℕ) → k < slots → free book k ≡ false → free (bookEach book ss) k ≡ false
+unfolding bookEach
+stays-each book v [] k h full = full
+stays-each book v (s ∷ ss) k h full = stays-each (bookAfter book s) (kept book s v) ss k h (stays book s v k h full)
+
+pub taken-again :
+    (book : List ℕ) → Valid book → (r : List ℕ) → answerOf book r ≡ Taken → (ss : List (List ℕ)) → answerOf (bookEach (bookAfter book r) ss) r ≡ Refused 5 0
+unfolding answerOf answerBy
+taken-again book v r taken ss =
+    let own = taken-fills book r (v .size) taken .fills in
+    let slot = taken-fills book r (v .size) taken .slot in
+    let full = stays-each (bookAfter book r) (kept book r v) ss slot (own .below) (fills book r v slot (own .judged-so)) in
+    ap (answerBy (bookEach (bookAfter book r) ss)) (own .judged-so) ∙ ap (λ (b : Bool). cond b Taken (Refused 5 0)) full
 
 -- so any of them, in any order, any number of times, leave the same book
 again : (book : List ℕ) (ss : List (List ℕ)) → ((s : List ℕ) → List·Memᴰ s ss → bookAfter book s ≡ book) → bookEach book ss ≡ book
