@@ -5,7 +5,7 @@ use Prim.Native.Nat.{ℕ, zero, suc, _+_, _*_, _-_, _/_, _≤_}
 use native.Mathlib.Omega.{arith}
 use lib.ListN.{length, take, drop, length-append, length-drop}
 use lib.Seq.{take-append-le, drop-append-le, drop-at, drop-drop}
-use Rattle.keys.specs.Number.{recordBytes}
+use Rattle.record_table.specs.Number.{recordBytes}
 use Rattle.book.specs.Book.{recordAt, answerOf, bookAfter}
 use Rattle.book.specs.Run.{recordsFrom, recordsOf, onward, answerAll, bookAll}
 use Rattle.book.specs.declared.Posted.{Posted}

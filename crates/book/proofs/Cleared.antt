@@ -6,7 +6,7 @@ use Prim.Native.Nat.{ℕ, _+_, _<_}
 use native.Mathlib.Omega.{arith}
 use lib.ListN.{length, getD, set, replicate, length-replicate, getD-replicate}
 use lib.Seq.{ext-getD, getD-set-same, getD-set-other}
-use Rattle.keys.proofs.Slots.{lt-or-ge}
+use Rattle.record_table.proofs.Slots.{lt-or-ge}
 use Rattle.book.specs.Book.{bookBytes, emptyBook}
 
 abbrev pub Zero : List ℕ → ℕ → Type 0

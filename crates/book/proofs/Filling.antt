@@ -7,9 +7,9 @@ use native.Mathlib.Omega.{arith}
 use borrow.Rule.Slice.PartMut.{putMid}
 use lib.ListN.{length, getD, take, drop, set, length-take, length-drop, drop-of-length-le}
 use lib.Seq.{sets, sets-eq, length-sets, getD-set-other, getD-take, getD-drop, ext-getD, take-at, drop-at, take-length, drop-drop, length-take-le}
-use Rattle.keys.specs.Number.{recordBytes}
-use Rattle.keys.specs.Slot.{slots}
-use Rattle.keys.proofs.Slots.{lt-or-ge}
+use Rattle.record_table.specs.Number.{recordBytes}
+use Rattle.record_table.specs.Slot.{slots}
+use Rattle.record_table.proofs.Slots.{lt-or-ge}
 use Rattle.book.specs.Book.{bookBytes, recordAt, filledWith}
 
 -- a place that is not among n from i on

@@ -8,7 +8,7 @@ use native.Mathlib.Omega.{arith}
 use borrow.Author.Tests.{eq-eqb}
 use lib.Dec.{eqb}
 use lib.ListN.{getD, replicate}
-use Rattle.keys.specs.Number.{recordBytes}
+use Rattle.record_table.specs.Number.{recordBytes}
 use Rattle.book.specs.Book.{recordAt, free}
 use Rattle.book.proofs.Filling.{slot-byte}
 

@@ -9,13 +9,13 @@ use borrow.Author.Tests.{eqb-true, eqb-false}
 use lib.Dec.{eqb}
 use lib.ListN.{length, replicate, length-replicate, getD-replicate}
 use lib.Seq.{ext-getD}
-use Rattle.keys.specs.Number.{recordBytes}
-use Rattle.keys.specs.Slot.{slots}
-use Rattle.records.specs.Record.{judged}
-use Rattle.records.specs.declared.Judged.{Judged}
-use Rattle.records.specs.declared.Judged.the-variants.{Wrong, Fill}
-use Rattle.records.proofs.Taken.{taken}
-use Rattle.records.proofs.Keys.{slot-below}
+use Rattle.record_table.specs.Number.{recordBytes}
+use Rattle.record_table.specs.Slot.{slots}
+use Rattle.record_judge.specs.Record.{judged}
+use Rattle.record_judge.specs.declared.Judged.{Judged}
+use Rattle.record_judge.specs.declared.Judged.the-variants.{Wrong, Fill}
+use Rattle.record_judge.proofs.Taken.{taken}
+use Rattle.record_judge.proofs.Keys.{slot-below}
 use Rattle.book.specs.Book.{bookBytes, recordAt, free, filledWith, bookBy, answerOf, bookAfter, emptyBook}
 use Rattle.book.specs.Valid.{Valid}
 use Rattle.book.specs.Run.{onward, bookAll}

@@ -9,12 +9,12 @@ use borrow.Author.Tests.{eqb-true, eqb-false, ne-eqb}
 use lib.Dec.{T, eqb}
 use lib.ListN.{length, getD, replicate}
 use Rattle.laws.proofs.Table.{each, at}
-use Rattle.keys.specs.Table.{Row, noRow, table}
-use Rattle.keys.specs.Number.{recordBytes, numberAt}
-use Rattle.keys.specs.Slot.{slots}
-use Rattle.records.specs.Record.{rowIn, rowOf, judged}
-use Rattle.records.specs.declared.Judged.the-variants.{Fill}
-use Rattle.records.proofs.Taken.{taken}
+use Rattle.record_table.specs.Table.{Row, noRow, table}
+use Rattle.record_table.specs.Number.{recordBytes, numberAt}
+use Rattle.record_table.specs.Slot.{slots}
+use Rattle.record_judge.specs.Record.{rowIn, rowOf, judged}
+use Rattle.record_judge.specs.declared.Judged.the-variants.{Fill}
+use Rattle.record_judge.proofs.Taken.{taken}
 use Rattle.book.specs.Book.{recordAt, free}
 use Rattle.book.specs.Valid.{Valid}
 use Rattle.book.proofs.Free.{first-byte, empty-free}

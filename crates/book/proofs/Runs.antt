@@ -7,12 +7,12 @@ use native.Mathlib.Nat.{sub-zero}
 use native.Mathlib.Omega.{arith}
 use lib.ListN.{length, take, drop, length-take, length-drop}
 use lib.Seq.{take-all}
-use Rattle.keys.specs.Number.{recordBytes}
-use Rattle.keys.proofs.Slots.{lt-or-ge}
-use Rattle.records.specs.Record.{judged}
-use Rattle.records.specs.declared.Judged.{Judged}
-use Rattle.records.specs.declared.Judged.the-variants.{Wrong, Fill}
-use Rattle.records.proofs.Taken.{taken}
+use Rattle.record_table.specs.Number.{recordBytes}
+use Rattle.record_table.proofs.Slots.{lt-or-ge}
+use Rattle.record_judge.specs.Record.{judged}
+use Rattle.record_judge.specs.declared.Judged.{Judged}
+use Rattle.record_judge.specs.declared.Judged.the-variants.{Wrong, Fill}
+use Rattle.record_judge.proofs.Taken.{taken}
 use Rattle.book.specs.Book.{recordAt, answerBy, answerOf, bookAfter}
 use Rattle.book.specs.Valid.{Valid}
 use Rattle.book.specs.Run.{recordsFrom, recordsOf, onward, answerAll, bookAll}

@@ -2,7 +2,7 @@
 use mathlib.Core.Path.{_≡_, refl, sym, _∙_}
 use Prim.Native.Nat.{ℕ}
 use lib.ListN.{length, replicate, length-replicate}
-use Rattle.keys.specs.Slot.{count, total, slots}
+use Rattle.record_table.specs.Slot.{count, total, slots}
 use Rattle.book.specs.Book.{bookBytes}
 
 pub slots-are : slots ≡ 6513

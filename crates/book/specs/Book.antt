@@ -3,8 +3,8 @@
 use Prim.Native.Nat.{ℕ, _+_, _*_}
 use mathlib.Core.{Bool.Bool, Bool.cond, List.List, List._++_}
 use lib.{Dec.eqb, ListN.getD, ListN.take, ListN.drop, ListN.replicate}
-use Rattle.keys.specs.{Number.recordBytes, Slot.slots}
-use Rattle.records.specs.{Record.judged, declared.Judged.Judged, declared.Judged.the-variants.Wrong, declared.Judged.the-variants.Fill}
+use Rattle.record_table.specs.{Number.recordBytes, Slot.slots}
+use Rattle.record_judge.specs.{Record.judged, declared.Judged.Judged, declared.Judged.the-variants.Wrong, declared.Judged.the-variants.Fill}
 use Rattle.book.specs.declared.Posted.{Posted, the-variants.Taken, the-variants.Refused}
 
 abbrev pub bookBytes : ℕ

@@ -3,7 +3,7 @@
 use Prim.Native.Nat.{ℕ, zero, suc, _+_, _-_, _/_}
 use mathlib.Core.List.{List, [], _∷_}
 use lib.ListN.{length}
-use Rattle.keys.specs.Number.{recordBytes}
+use Rattle.record_table.specs.Number.{recordBytes}
 use Rattle.book.specs.Book.{recordAt, answerOf, bookAfter}
 use Rattle.book.specs.declared.Posted.{Posted, the-variants.Taken, the-variants.Refused}
 

@@ -3,8 +3,8 @@
 use Prim.Native.Nat.{ℕ, _<_}
 use mathlib.Core.{List.List, Logic._⊎_, Path._≡_}
 use lib.ListN.{length, replicate}
-use Rattle.keys.specs.{Number.recordBytes, Slot.slots}
-use Rattle.records.specs.{Record.judged, declared.Judged.the-variants.Fill}
+use Rattle.record_table.specs.{Number.recordBytes, Slot.slots}
+use Rattle.record_judge.specs.{Record.judged, declared.Judged.the-variants.Fill}
 use Rattle.book.specs.Book.{bookBytes, recordAt, bookAfter, emptyBook}
 
 pub data Made : List ℕ → Type 0 where

@@ -1,17 +1,17 @@
 // The book of records: lent memory, sixteen bytes a slot.
-use records::Judged;
+use record_judge::Judged;
 ghost use mathlib.Core.Path.{_≡_};
 ghost use mathlib.Core.Bool.{cond};
 ghost use Prim.Native.Nat.{_+_, _<_, min};
 ghost use lib.ListN.{length};
-ghost use Rattle.keys.specs.Number.{recordBytes};
-ghost use Rattle.keys.specs.Slot.{slots};
+ghost use Rattle.record_table.specs.Number.{recordBytes};
+ghost use Rattle.record_table.specs.Slot.{slots};
 ghost use Rattle.book.specs.declared.Posted.the-variants.{Taken, Refused};
 ghost use Rattle.book.specs.Book.{bookBytes, free, filledWith, answerOf, bookAfter, emptyBook};
 ghost use Rattle.book.specs.Valid.{Valid};
 ghost use Rattle.book.specs.Run.{recordsOf, answerAll, bookAll};
 
-pub const BYTES: usize = keys::SLOTS * keys::RECORD;
+pub const BYTES: usize = record_table::SLOTS * record_table::RECORD;
 
 const ALREADY_FILLED: u8 = 5;
 
@@ -39,7 +39,7 @@ pub fn post(book: &mut [u8], posted: &[u8]) -> Posted
     ensures { λ r. ⌜ r ≡ answerOf (now (book .entry)) (now (posted .entry)) ⌝ }
     ensures { λ _. ⌜ now (book .exit) ≡ bookAfter (now (book .entry)) (now (posted .entry)) ⌝ }
 {
-    match records::judge(posted) {
+    match record_judge::judge(posted) {
         Judged::Wrong(number, place) => Posted::Refused(number, place),
         Judged::Fill(slot) => fill(book, slot, posted),
     }
@@ -51,13 +51,13 @@ fn fill(book: &mut [u8], slot: usize, posted: &[u8]) -> Posted
     ensures { λ r. ⌜ r ≡ cond (free (now (book .entry)) slot) Taken (Refused 5 0) ⌝ }
     ensures { λ _. ⌜ now (book .exit) ≡ cond (free (now (book .entry)) slot) (filledWith (now (book .entry)) slot (now (posted .entry))) (now (book .entry)) ⌝ }
 {
-    let at = slot * keys::RECORD;
+    let at = slot * record_table::RECORD;
     if book[at] != 0 {
         return Posted::Refused(ALREADY_FILLED, 0);
     }
-    let mut record = [0u8; keys::RECORD];
+    let mut record = [0u8; record_table::RECORD];
     bytes::copy(posted, &mut record);
-    bytes::copy(&record, &mut book[at..at + keys::RECORD]);
+    bytes::copy(&record, &mut book[at..at + record_table::RECORD]);
     Posted::Taken
 }
 
@@ -84,8 +84,8 @@ fn record_end(length: usize, at: usize) -> usize
     requires { ⌜ at < length ⌝ }
     ensures { λ r. ⌜ r ≡ min (at + recordBytes) length ⌝ }
 {
-    if length - at < keys::RECORD {
+    if length - at < record_table::RECORD {
         return length;
     }
-    at + keys::RECORD
+    at + record_table::RECORD
 }

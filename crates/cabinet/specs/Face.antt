@@ -7,8 +7,8 @@ use Rattle.book.specs.Book.{bookBytes, emptyBook}
 use Rattle.book.specs.declared.Posted.{Posted, the-variants.Taken, the-variants.Refused as RefusedRecord}
 use Rattle.units.specs.Grams.{solids, co2e}
 use Rattle.year.specs.declared.{Answer.Answer, Answer.the-variants.Stated, Answer.the-variants.Refused as RefusedYear, Figures.Figures}
-use Rattle.meter.specs.declared.MonthAnswer.{MonthAnswer, the-variants.Destroyed, the-variants.Refused as RefusedMonth}
-use Rattle.reading.specs.declared.Measure.{Measure, the-variants.Whole, the-variants.TurnedDown}
+use Rattle.meter_month.specs.declared.MonthAnswer.{MonthAnswer, the-variants.Destroyed, the-variants.Refused as RefusedMonth}
+use Rattle.meter_reading.specs.declared.Measure.{Measure, the-variants.Whole, the-variants.TurnedDown}
 use Rattle.cabinet.specs.declared.{CabinetPosted.CabinetPosted, CabinetYear.CabinetYear, CabinetMonth.CabinetMonth, CabinetReading.CabinetReading}
 
 -- lent memory of a book's size

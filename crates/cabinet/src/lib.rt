@@ -4,13 +4,13 @@ ghost use mathlib.Core.Path.{_≡_};
 ghost use Rattle.book.specs.Book.{answerOf, bookAfter};
 ghost use Rattle.book.specs.Valid.{Valid};
 ghost use Rattle.year.specs.Answer.{answerOf as yearAnswerOf};
-ghost use Rattle.meter.specs.Month.{monthOf as meterMonthOf};
-ghost use Rattle.reading.specs.Exact.{litresOf, hundredthsOf};
+ghost use Rattle.meter_month.specs.Month.{monthOf as meterMonthOf};
+ghost use Rattle.meter_reading.specs.Exact.{litresOf, hundredthsOf};
 ghost use Rattle.cabinet.specs.Face.{sized, emptied, postedOf, yearOf, monthOf, readingOf};
 ghost use Rattle.year.specs.declared.Answer.the-variants.{Stated, Refused};
 use book::Posted;
-use meter::MonthAnswer;
-use reading::Measure;
+use meter_month::MonthAnswer;
+use meter_reading::Measure;
 use year::Answer;
 use year::Figures;
 
@@ -152,7 +152,7 @@ pub extern "C" fn cabinet_month(
 ) -> CabinetMonth
     ensures { λ r. ⌜ r ≡ monthOf (meterMonthOf (now (flows .entry)) (now (contents .entry)) (now (states .entry)) efficiency) ⌝ }
 {
-    match meter::month(flows, contents, states, efficiency) {
+    match meter_month::month(flows, contents, states, efficiency) {
         MonthAnswer::Destroyed(methane) => CabinetMonth {
             number: NOT_REFUSED,
             place: 0,
@@ -171,7 +171,7 @@ pub extern "C" fn cabinet_month(
 pub extern "C" fn cabinet_litres(flow: f32) -> CabinetReading
     ensures { λ r. ⌜ r ≡ readingOf (litresOf flow) ⌝ }
 {
-    counted(reading::litres(flow))
+    counted(meter_reading::litres(flow))
 }
 
 // One content as whole hundredths of a per cent.
@@ -179,7 +179,7 @@ pub extern "C" fn cabinet_litres(flow: f32) -> CabinetReading
 pub extern "C" fn cabinet_hundredths(content: f32) -> CabinetReading
     ensures { λ r. ⌜ r ≡ readingOf (hundredthsOf content) ⌝ }
 {
-    counted(reading::hundredths(content))
+    counted(meter_reading::hundredths(content))
 }
 
 fn counted(measure: Measure) -> CabinetReading

@@ -5,15 +5,15 @@ use mathlib.Core.List.{_++_}
 use lib.Ieee.{round}
 use lib.ListN.{replicate}
 use Rattle.units.specs.Grams.{methane}
-use Rattle.reading.specs.Exact.{isUpTo, timesDown, scaledOf}
-use Rattle.state.specs.State.{readingOf}
+use Rattle.meter_reading.specs.Exact.{isUpTo, timesDown, scaledOf}
+use Rattle.meter_state.specs.State.{readingOf}
 use Rattle.laws.specs.Counting.{sum, firstFrom}
-use Rattle.series.specs.Series.{amount}
-use Rattle.gaps.specs.Filling.{startOf, totalOf, averageOf, fillOf, filled}
-use Rattle.meter.specs.declared.MonthAnswer.{MonthAnswer}
-use Rattle.meter.specs.declared.MonthAnswer.the-variants.{Destroyed}
-use Rattle.hour.specs.Hour.{recordedOf, hourAt, gramsIn, hourOf}
-use Rattle.meter.specs.Month.{gramsOf, destroyedOf, meteredOf, monthOf}
+use Rattle.meter_series.specs.Series.{amount}
+use Rattle.meter_gaps.specs.Filling.{startOf, totalOf, averageOf, fillOf, filled}
+use Rattle.meter_month.specs.declared.MonthAnswer.{MonthAnswer}
+use Rattle.meter_month.specs.declared.MonthAnswer.the-variants.{Destroyed}
+use Rattle.meter_hour.specs.Hour.{recordedOf, hourAt, gramsIn, hourOf}
+use Rattle.meter_month.specs.Month.{gramsOf, destroyedOf, meteredOf, monthOf}
 use Rattle.figures.proofs.Starred.{nearest}
 
 -- 672 hours at 100.0 and 60.0, with no flow in so many hours from hour 10 on

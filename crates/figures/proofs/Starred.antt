@@ -11,19 +11,19 @@ use Rattle.units.specs.declared.solids.Solids.{Solids}
 use Rattle.units.specs.Grams.{solids, co2e, potential, b0RuleOf}
 use Rattle.tonnes.specs.Tonnes.{netOf}
 use Rattle.calendar.specs.Days.{leapOf, februaryOf, lengthsOf, lengthOf, goneOf, daysOf}
-use Rattle.factor.specs.Rule.{denominator, added, subtracted}
-use Rattle.factor.specs.Factor.{summedOf, ruledOf, factorOf}
-use Rattle.lagoon.specs.declared.Standing.{Standing}
-use Rattle.lagoon.specs.declared.Outcome.{Outcome}
-use Rattle.lagoon.specs.Month.{enteredOf, emptyOf, outcomeOf}
-use Rattle.reading.specs.declared.Measure.the-variants.{Whole}
-use Rattle.reading.specs.Exact.{isUpTo, timesDown, scaledOf, hundredthsOf}
-use Rattle.state.specs.State.{readingOf}
+use Rattle.lagoon_factor.specs.Rule.{denominator, added, subtracted}
+use Rattle.lagoon_factor.specs.Factor.{summedOf, ruledOf, factorOf}
+use Rattle.lagoon_month.specs.declared.Standing.{Standing}
+use Rattle.lagoon_month.specs.declared.Outcome.{Outcome}
+use Rattle.lagoon_month.specs.Month.{enteredOf, emptyOf, outcomeOf}
+use Rattle.meter_reading.specs.declared.Measure.the-variants.{Whole}
+use Rattle.meter_reading.specs.Exact.{isUpTo, timesDown, scaledOf, hundredthsOf}
+use Rattle.meter_state.specs.State.{readingOf}
 use Rattle.laws.specs.Counting.{sum}
-use Rattle.series.specs.Series.{amount}
-use Rattle.gaps.specs.Filling.{filled}
-use Rattle.hour.specs.Hour.{recordedOf, hourAt, gramsIn, hourOf}
-use Rattle.meter.specs.Month.{gramsOf, destroyedOf, meteredOf}
+use Rattle.meter_series.specs.Series.{amount}
+use Rattle.meter_gaps.specs.Filling.{filled}
+use Rattle.meter_hour.specs.Hour.{recordedOf, hourAt, gramsIn, hourOf}
+use Rattle.meter_month.specs.Month.{gramsOf, destroyedOf, meteredOf}
 
 -- 100 head, table solids 1000, mass 6000, share 10,000, in a month counted from January 2011
 abbrev pub herd : ℕ → Solids

@@ -2,8 +2,8 @@
 use Prim.Native.Nat.{ℕ, _≤_}
 use mathlib.Core.{Path._≡_, List.List, List._++_}
 use lib.ListN.{length}
-use Rattle.meter.specs.declared.MonthAnswer.{MonthAnswer}
-use Rattle.format.specs.Format.{statedOf}
+use Rattle.meter_month.specs.declared.MonthAnswer.{MonthAnswer}
+use Rattle.meter_bytes.specs.Format.{statedOf}
 use Rattle.month.specs.declared.Outcome.{Outcome, the-variants.Stated, the-variants.Failed}
 
 -- a read failed; or some input came, and the answer is that of all of it: where its bytes fill the buffer, whatever may follow them changes nothing

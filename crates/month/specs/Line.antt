@@ -1,9 +1,9 @@
 -- The one line that the month prints: `destroyed N`, or `refused N at P`. Assumes nothing.
 use Prim.Native.Nat.{ℕ}
 use mathlib.Core.List.{List, _++_}
-use Rattle.page.specs.Line.{newline, figure}
-use Rattle.refusal.specs.Line.{refusalLine}
-use Rattle.meter.specs.declared.MonthAnswer.{MonthAnswer, the-variants.Destroyed, the-variants.Refused}
+use Rattle.print_page.specs.Line.{newline, figure}
+use Rattle.print_refusal.specs.Line.{refusalLine}
+use Rattle.meter_month.specs.declared.MonthAnswer.{MonthAnswer, the-variants.Destroyed, the-variants.Refused}
 
 unfoldable pub destroyedLine : ℕ → List ℕ
 destroyedLine grams = figure "destroyed " grams ++ newline

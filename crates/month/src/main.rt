@@ -4,17 +4,17 @@
 // that fails is not taken for the input's end: a line on standard error says so, and no figure is printed.
 ghost use Prim.Native.Nat.{_<_};
 ghost use lib.ListN.{length};
-ghost use Rattle.input.specs.Got.{Room};
-ghost use Rattle.format.specs.Format.{longestBytes};
+ghost use Rattle.program_input.specs.Got.{Room};
+ghost use Rattle.meter_bytes.specs.Format.{longestBytes};
 ghost use Rattle.month.specs.Input.{Comes};
-use input::Got;
 use libc::STDOUT_FILENO;
-use meter::MonthAnswer;
+use meter_month::MonthAnswer;
+use program_input::Got;
 
 mod line;
 
 // One byte more than the longest month has, so that a longer input shows.
-const BUFFER: usize = format::LONGEST + 1;
+const BUFFER: usize = meter_bytes::LONGEST + 1;
 
 // The answer for the month that standard input holds, or that a read failed.
 enum Outcome {
@@ -38,7 +38,7 @@ fn state_input(buffer: &mut [u8]) -> Outcome
 {
     let got = read_input(buffer);
     match got {
-        Got::Bytes(count) => Outcome::Stated(format::stated(&buffer[..count])),
+        Got::Bytes(count) => Outcome::Stated(meter_bytes::stated(&buffer[..count])),
         Got::Failed => Outcome::Failed,
     }
 }
@@ -49,7 +49,7 @@ fn read_input(buffer: &mut [u8]) -> Got
 {
     let mut held: usize = 0;
     while held < buffer.len() {
-        let more = input::read_more(buffer, held);
+        let more = program_input::read_more(buffer, held);
         let Got::Bytes(count) = more else {
             return Got::Failed;
         };

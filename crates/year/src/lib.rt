@@ -1,12 +1,12 @@
 // A year of a book: what it lacks, its lines and its credit.
 ghost use mathlib.Core.Path.{_≡_};
 ghost use Rattle.book.specs.Valid.{Valid};
-ghost use Rattle.months.specs.Asks.{InPeriod};
+ghost use Rattle.year_months.specs.Asks.{InPeriod};
 ghost use Rattle.year.specs.Figures.{figuresOf};
 ghost use Rattle.year.specs.Answer.{answerOf, wholeYear};
-use needs::Completeness;
 use units::Co2e;
 use units::Solids;
+use year_needs::Completeness;
 
 // The years of the crediting period.
 const FIRST_YEAR: u64 = 1;
@@ -53,7 +53,7 @@ pub fn year(book: &[u8], year: u64) -> Answer
         return Answer::Refused(NO_SUCH_YEAR, 0);
     }
     let counted = year as usize;
-    let found = needs::complete(book, counted);
+    let found = year_needs::complete(book, counted);
     let Completeness::Complete = found else {
         return Answer::Refused(LACKING, found.place());
     };
@@ -66,8 +66,8 @@ fn whole_year(book: &[u8], year: usize) -> Answer
     requires { ⌜ InPeriod year ⌝ }
     ensures { λ r. ⌜ r ≡ wholeYear (now (book .entry)) year ⌝ }
 {
-    let over = shares::over_shared(book);
-    if over <= keys::CATEGORIES {
+    let over = year_shares::over_shared(book);
+    if over <= record_table::CATEGORIES {
         return Answer::Refused(OVER_SHARED, over as u64);
     }
     Answer::Stated(figures_of(book, year))
@@ -78,8 +78,8 @@ fn figures_of(book: &[u8], year: usize) -> Figures
     requires { ⌜ InPeriod year ⌝ }
     ensures { λ r. ⌜ r ≡ figuresOf (now (book .entry)) year ⌝ }
 {
-    let sums = lines::sums_of(book, year);
-    let operator = credit::operator_of(book, year);
+    let sums = year_lines::sums_of(book, year);
+    let operator = year_credit::operator_of(book, year);
     let entered = sums.entered;
     let degraded = sums.degraded;
     let removed = sums.removed;
@@ -87,7 +87,7 @@ fn figures_of(book: &[u8], year: usize) -> Figures
     let baseline = sums.baseline;
     let project_methane = operator.project_methane;
     let metered = operator.metered();
-    let net = tonnes::net(credit::total(baseline, operator));
+    let net = tonnes::net(year_credit::total(baseline, operator));
     Figures {
         entered,
         degraded,

@@ -7,21 +7,21 @@ use native.Mathlib.Omega.{arith}
 use borrow.Author.Tests.{ne-eqb}
 use lib.ListN.{length}
 use lib.Seq.{take-all}
-use Rattle.keys.specs.Number.{recordBytes}
-use Rattle.records.specs.Record.{judged}
-use Rattle.records.specs.declared.Judged.{Judged}
-use Rattle.records.specs.declared.Judged.the-variants.{Wrong}
+use Rattle.record_table.specs.Number.{recordBytes}
+use Rattle.record_judge.specs.Record.{judged}
+use Rattle.record_judge.specs.declared.Judged.{Judged}
+use Rattle.record_judge.specs.declared.Judged.the-variants.{Wrong}
 use Rattle.book.specs.Book.{emptyBook, recordAt, answerBy, answerOf}
 use Rattle.book.specs.Run.{recordsFrom, recordsOf, onward, answerAll, bookAll}
 use Rattle.book.specs.declared.Posted.{Posted}
 use Rattle.book.specs.declared.Posted.the-variants.{Taken, Refused}
-use Rattle.refusal.specs.Line.{refusalLine}
-use Rattle.feed.specs.declared.Ending.{Ending}
-use Rattle.feed.specs.declared.Ending.the-variants.{Ended, Refused as EndingRefused, Failed}
-use Rattle.feed.specs.Input.{bookOf, endingBy, endingOf, Comes as FeedComes, unread as feed-unread, read as feed-read}
-use Rattle.feed.proofs.Posting.{after, stays, parts}
-use Rattle.page.specs.Page.{Lays}
-use Rattle.page.proofs.Laying.{within}
+use Rattle.print_refusal.specs.Line.{refusalLine}
+use Rattle.program_feed.specs.declared.Ending.{Ending}
+use Rattle.program_feed.specs.declared.Ending.the-variants.{Ended, Refused as EndingRefused, Failed}
+use Rattle.program_feed.specs.Input.{bookOf, endingBy, endingOf, Comes as FeedComes, unread as feed-unread, read as feed-read}
+use Rattle.program_feed.proofs.Posting.{after, stays, parts}
+use Rattle.print_page.specs.Page.{Lays}
+use Rattle.print_page.proofs.Laying.{within}
 use Rattle.years.specs.Output.{endingLines, output}
 use Rattle.years.specs.Input.{Comes, unread, read}
 use Rattle.years.specs.declared.Outcome.{Outcome}

@@ -1,7 +1,7 @@
 -- What the year program makes of its standard input. Which input comes is the system's, and no contract can say it. Assumes nothing.
 use Prim.Native.Nat.{ℕ}
 use mathlib.Core.{Path._≡_, List.List}
-use Rattle.page.specs.Page.{Lays}
+use Rattle.print_page.specs.Page.{Lays}
 use Rattle.years.specs.Output.{output}
 use Rattle.years.specs.declared.Outcome.{Outcome, the-variants.Laid, the-variants.Failed}
 

@@ -2,9 +2,9 @@
 use Prim.Native.Nat.{ℕ}
 use mathlib.Core.List.{List, []}
 use Rattle.book.specs.Book.{emptyBook}
-use Rattle.refusal.specs.Line.{refusalLine}
-use Rattle.text.specs.Lines.{printed}
-use Rattle.feed.specs.{Input.bookOf, Input.endingOf, declared.Ending.Ending, declared.Ending.the-variants.Ended, declared.Ending.the-variants.Refused, declared.Ending.the-variants.Failed}
+use Rattle.print_refusal.specs.Line.{refusalLine}
+use Rattle.print_years.specs.Lines.{printed}
+use Rattle.program_feed.specs.{Input.bookOf, Input.endingOf, declared.Ending.Ending, declared.Ending.the-variants.Ended, declared.Ending.the-variants.Refused, declared.Ending.the-variants.Failed}
 
 -- a posting refusal is the only output; else the years are printed; of an input that could not be read, nothing
 unfoldable pub endingLines : Ending → List ℕ → List ℕ

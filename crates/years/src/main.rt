@@ -3,12 +3,12 @@
 ghost use mathlib.Core.Path.{_≡_};
 ghost use Prim.Native.Nat.{_≤_};
 ghost use lib.ListN.{length};
-ghost use Rattle.keys.specs.Number.{recordBytes};
+ghost use Rattle.record_table.specs.Number.{recordBytes};
 ghost use Rattle.book.specs.Book.{bookBytes};
-ghost use Rattle.text.specs.Page.{pageBytes};
+ghost use Rattle.print_years.specs.Page.{pageBytes};
 ghost use Rattle.years.specs.Input.{Comes};
-use feed::Ending;
 use libc::STDOUT_FILENO;
+use program_feed::Ending;
 
 // How many bytes are read at a time, at most: 4,096 records.
 const BLOCK: usize = 65_536;
@@ -22,7 +22,7 @@ enum Outcome {
 fn main() {
     let mut book = [0u8; book::BYTES];
     let mut block = [0u8; BLOCK];
-    let mut page = [0u8; text::PAGE_BYTES];
+    let mut page = [0u8; print_years::PAGE_BYTES];
     let outcome = lay_input(&mut book, &mut block, &mut page);
     match outcome {
         Outcome::Laid(end) => print(&page[..end]),
@@ -39,11 +39,11 @@ fn lay_input(book: &mut [u8], block: &mut [u8], page: &mut [u8]) -> Outcome
     ensures { λ r. ⌜ Comes (now (page .entry)) r (now (page .exit)) ⌝ }
 {
     book::empty(book);
-    let ending = feed::post_input(book, block);
+    let ending = program_feed::post_input(book, block);
     match ending {
-        Ending::Ended => Outcome::Laid(text::lay_years(book, page)),
+        Ending::Ended => Outcome::Laid(print_years::lay_years(book, page)),
         Ending::Refused(number, place) => {
-            Outcome::Laid(refusal::lay_refusal(page, 0, number, place as u64))
+            Outcome::Laid(print_refusal::lay_refusal(page, 0, number, place as u64))
         }
         Ending::Failed => Outcome::Failed,
     }

@@ -1,8 +1,8 @@
 -- `book::post` meets its contract: by what the record alone decides. Assumes nothing.
 use mathlib.Core.Path.{sym, ap, _∙_}
 use borrow.Author.Needs.{needs}
-use Rattle.records.proofs.Taken.{taken}
-use Rattle.records.proofs.Keys.{slot-below}
+use Rattle.record_judge.proofs.Taken.{taken}
+use Rattle.record_judge.proofs.Keys.{slot-below}
 use Rattle.book.specs.Book.{answerBy, bookBy, answerOf, bookAfter}
 use Rattle.book.proofs.post.Statement.{statement}
 use Rattle.book.proofs.post.Tie as tie

@@ -2,7 +2,7 @@
 use mathlib.Core.Path.{sym}
 use borrow.Author.Needs.{needs}
 use lib.Seq.{length-take-le}
-use Rattle.page.proofs.Laying.{within}
+use Rattle.print_page.proofs.Laying.{within}
 use Rattle.month.proofs.print.Statement.{statement}
 use Rattle.month.proofs.print.Tie as tie
 

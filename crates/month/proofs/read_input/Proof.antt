@@ -4,8 +4,8 @@ use Prim.Native.Nat.{ℕ, _-_, _≤_}
 use native.Mathlib.Omega.{arith}
 use borrow.Author.Needs.{needs}
 use lib.ListN.{length}
-use Rattle.input.specs.declared.Got.the-variants.{Bytes}
-use Rattle.input.proofs.Within.{given}
+use Rattle.program_input.specs.declared.Got.the-variants.{Bytes}
+use Rattle.program_input.proofs.Within.{given}
 use Rattle.month.proofs.read_input.Statement.{statement}
 use Rattle.month.proofs.read_input.Tie as tie
 

@@ -6,11 +6,11 @@ use native.Mathlib.Omega.{arith}
 use borrow.Author.Needs.{needs}
 use lib.ListN.{length, take}
 use lib.Seq.{length-take-le}
-use Rattle.input.specs.declared.Got.the-variants.{Bytes}
-use Rattle.input.proofs.Within.{given}
-use Rattle.meter.specs.declared.MonthAnswer.{MonthAnswer}
-use Rattle.format.specs.Format.{longestBytes, statedOf}
-use Rattle.format.proofs.Long.{nothing-after}
+use Rattle.program_input.specs.declared.Got.the-variants.{Bytes}
+use Rattle.program_input.proofs.Within.{given}
+use Rattle.meter_month.specs.declared.MonthAnswer.{MonthAnswer}
+use Rattle.meter_bytes.specs.Format.{longestBytes, statedOf}
+use Rattle.meter_bytes.proofs.Long.{nothing-after}
 use Rattle.month.specs.Input.{Comes, unread, read}
 use Rattle.month.specs.declared.Outcome.the-variants.{Stated}
 use Rattle.month.proofs.state_input.Statement.{statement}

@@ -6,10 +6,10 @@ use borrow.Author.Needs.{needs}
 use denote.Ref.{now}
 use mir.Syntax.{w64}
 use mir.Val.{ofZ, toZ}
-use Rattle.keys.specs.Table.{lines}
-use Rattle.credit.specs.Asks.{OperatorFits}
-use Rattle.credit.proofs.Bounds.{operator-fits, operator-most}
-use Rattle.lines.proofs.Bounds.{sums-most}
+use Rattle.record_table.specs.Table.{lines}
+use Rattle.year_credit.specs.Asks.{OperatorFits}
+use Rattle.year_credit.proofs.Bounds.{operator-fits, operator-most}
+use Rattle.year_lines.proofs.Bounds.{sums-most}
 use Rattle.year.proofs.Never.{figures-are}
 use Rattle.year.proofs.figures_of.Statement.{statement}
 use Rattle.year.proofs.figures_of.Tie as tie

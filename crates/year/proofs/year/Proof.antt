@@ -3,7 +3,7 @@
 use native.Mathlib.Omega.{arith}
 use borrow.Author.Needs.{needs}
 use denote.Ref.{now}
-use Rattle.months.specs.Asks.{InPeriod}
+use Rattle.year_months.specs.Asks.{InPeriod}
 use Rattle.year.proofs.Answers.{complete-is, lacking-is, too-high, too-low}
 use Rattle.year.proofs.year.Statement.{statement}
 use Rattle.year.proofs.year.Tie as tie

@@ -4,7 +4,7 @@ use Prim.Native.Nat.{_^_, _<_}
 use native.Mathlib.Omega.{arith}
 use borrow.Author.Needs.{needs}
 use Rattle.book.proofs.Kept.{empty-valid}
-use Rattle.text.proofs.Lengths.{refusal-fits}
+use Rattle.print_years.proofs.Lengths.{refusal-fits}
 use Rattle.years.specs.Output.{endingLines}
 use Rattle.years.specs.Input.{unread}
 use Rattle.years.proofs.Printed.{laid}

@@ -1,8 +1,8 @@
 -- The line's two texts are laid one after the other, and no figure has more than twenty digits. Assumes nothing.
 use native.Mathlib.Omega.{arith}
 use borrow.Author.Needs.{needs}
-use Rattle.page.proofs.Laying.{joined}
-use Rattle.page.proofs.Lengths.{wide}
+use Rattle.print_page.proofs.Laying.{joined}
+use Rattle.print_page.proofs.Lengths.{wide}
 use Rattle.month.specs.Line.{destroyedLine}
 use Rattle.month.proofs.line.destroyed.Statement.{statement}
 use Rattle.month.proofs.line.destroyed.Tie as tie

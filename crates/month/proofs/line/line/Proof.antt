@@ -2,7 +2,7 @@
 use Prim.Native.Nat.{_^_, _<_}
 use native.Mathlib.Omega.{arith}
 use borrow.Author.Needs.{needs}
-use Rattle.refusal.proofs.Lengths.{refusal-most}
+use Rattle.print_refusal.proofs.Lengths.{refusal-most}
 use Rattle.month.proofs.line.line.Statement.{statement}
 use Rattle.month.proofs.line.line.Tie as tie
 

@@ -1,0 +1,89 @@
+-- Every slot lies inside the book, and a slot tells its key: keys of a row are counted as digits, and the rows' slots follow each other.
+-- Assumes nothing.
+use mathlib.Core.Path.{_≡_, refl, sym, ap, _∙_, subst}
+use mathlib.Core.Bool.{Bool, true, false, _&&_}
+use mathlib.Core.List.{List, [], _∷_, _++_, map}
+use Prim.Native.Nat.{ℕ, _+_, _*_, _-_, _≤_, _<_}
+use native.Mathlib.Omega.{arith}
+use borrow.Author.Tests.{leb-true}
+use lib.Dec.{leb}
+use lib.ListN.{length, getD}
+use Rattle.record_table.specs.Table.{from, Entry, u8, noRow, table, highestOf, entriesOf}
+use Rattle.record_table.specs.Number.{afterMark, numberAt}
+use Rattle.record_table.specs.Slot.{count, index, slots, slotOf}
+use Rattle.record_table.proofs.Slots.{digit-same, Low, index-below, Among, among, among-all, one-row}
+use Rattle.record_fields.specs.Entry.{inRange}
+use Rattle.record_judge.specs.Record.{keyIn, rowOf, keyOf}
+use Rattle.record_judge.proofs.Taken.{Taken}
+use Rattle.record_judge.proofs.Entries.{Ranged, each-ranged}
+
+both : (a b : Bool) → (a && b) ≡ true → (a ≡ true) × (b ≡ true)
+both true b e = (refl, e)
+both false b e = let z : _≡_ {A = ℕ} 0 1 = cc in let f : ⊥ = omega arith in absurd f
+
+pub within : (low high : ℕ) (r : List ℕ) (x : ℕ) → inRange (from low high) r x ≡ true → (low ≤ x) × (x ≤ high)
+unfolding inRange
+within low high r x e =
+    let b = both (leb low x) (leb x high) e in
+    (leb-true _ _ (b .0), leb-true _ _ (b .1))
+
+-- a byte of the key counts from 1 to its highest value
+byte : (r : List ℕ) (at high : ℕ) → inRange (from 1 high) r (numberAt r at 1) ≡ true → (1 ≤ getD r at 0) × (getD r at 0 ≤ high)
+unfolding numberAt
+byte r at high e =
+    let b = within 1 high r (getD r at 0 + 256 * 0) e in
+    (omega arith, omega arith)
+
+-- the bytes of a key whose entries, with some after them, are in their ranges
+module _ (after : List Entry) where
+  low : (at : ℕ) (highest r : List ℕ) → Ranged at (map (u8 1) highest ++ after) r → Low highest (keyIn at highest r)
+  unfolding keyIn
+  low at [] r g = tt
+  low at (high ∷ highest) r g = let b = byte r at high (g .0) in (omega arith, low (at + 1) highest r (g .1))
+
+  tells :
+      (at : ℕ) (highest r s : List ℕ) → Ranged at (map (u8 1) highest ++ after) r → Ranged at (map (u8 1) highest ++ after) s →
+      index highest (keyIn at highest r) ≡ index highest (keyIn at highest s) → keyIn at highest r ≡ keyIn at highest s
+  unfolding keyIn index
+  tells at [] r s g h e = refl
+  tells at (high ∷ highest) r s g h e =
+      let b = byte r at high (g .0) in
+      let c = byte s at high (h .0) in
+      let i = index-below highest (keyIn (at + 1) highest r) (low (at + 1) highest r (g .1)) in
+      let j = index-below highest (keyIn (at + 1) highest s) (low (at + 1) highest s (h .1)) in
+      let d : getD r at 0 - 1 ≡ getD s at 0 - 1 = digit-same (getD r at 0 - 1) (getD s at 0 - 1) (count highest) _ _ i j e in
+      let a : getD r at 0 ≡ getD s at 0 = omega arith in
+      let f : index highest (keyIn (at + 1) highest r) ≡ index highest (keyIn (at + 1) highest s) = omega (arith, e, ap (λ (x : ℕ). x * count highest) d) in
+      let k = tells (at + 1) highest r s (g .1) (h .1) f in
+      cc
+
+abbrev afterKey : ℕ → List Entry
+afterKey row = getD table row noRow .after
+
+-- of a record that is taken
+module _ (r : List ℕ) (k : ℕ) (t : Taken r k) where
+  pub fields : Ranged afterMark (entriesOf (rowOf r)) r
+  fields = each-ranged (rowOf r) (t .row) r (t .ranged)
+
+  pub there : Among (rowOf r) k
+  unfolding keyOf
+  there = subst (Among (rowOf r)) (t .slot) (among (rowOf r) (t .row) (keyOf (rowOf r) r) (low (afterKey (rowOf r)) afterMark (highestOf (rowOf r)) r fields))
+
+  pub slot-below : k < slots
+  slot-below = among-all (rowOf r) k (t .row) there
+
+-- two records that are taken for one slot have one key
+pub same-row : (r s : List ℕ) (k : ℕ) → Taken r k → Taken s k → rowOf r ≡ rowOf s
+same-row r s k t u = one-row (rowOf r) (rowOf s) k (there r k t) (there s k u)
+
+at-row : (row : ℕ) → row < length table → (r s : List ℕ) → Ranged afterMark (entriesOf row) r → Ranged afterMark (entriesOf row) s
+    → slotOf row (keyOf row r) ≡ slotOf row (keyOf row s) → keyOf row r ≡ keyOf row s
+unfolding slotOf keyOf
+at-row row h r s g f e = tells (afterKey row) afterMark (highestOf row) r s g f (omega arith)
+
+pub same-key : (r s : List ℕ) (k : ℕ) → Taken r k → Taken s k → keyOf (rowOf r) r ≡ keyOf (rowOf s) s
+same-key r s k t u =
+    let m = same-row r s k t u in
+    let g : Ranged afterMark (entriesOf (rowOf r)) s = subst (λ (n : ℕ). Ranged afterMark (entriesOf n) s) (sym m) (fields s k u) in
+    let e : slotOf (rowOf r) (keyOf (rowOf r) s) ≡ k = subst (λ (n : ℕ). slotOf n (keyOf n s) ≡ k) (sym m) (u .slot) in
+    at-row (rowOf r) (t .row) r s (fields r k t) g (t .slot ∙ sym e) ∙ ap (λ (n : ℕ). keyOf n s) m

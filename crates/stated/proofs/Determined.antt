@@ -1,7 +1,0 @@
--- No two outcomes fit the contract of a public function. Assumes nothing.
-use Rattle.laws.proofs.Determined.{OneOutcome}
-use Rattle.page.proofs.Determined.{lays-one}
-use Rattle.stated.proofs.lay_year.Reads as LayYear
-
-pub lay-year-one : OneOutcome LayYear.Learnt (λ κ s. s .0 .now)
-lay-year-one κ a x y s t = lays-one

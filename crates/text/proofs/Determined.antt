@@ -1,7 +1,0 @@
--- No two outcomes fit the contract of a public function. Assumes nothing.
-use Rattle.laws.proofs.Determined.{OneOutcome}
-use Rattle.page.proofs.Determined.{lays-one}
-use Rattle.text.proofs.lay_years.Reads as LayYears
-
-pub lay-years-one : OneOutcome LayYears.Learnt (λ κ s. s .1 .0 .now)
-lay-years-one κ a x y s t = lays-one

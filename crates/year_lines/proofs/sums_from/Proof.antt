@@ -1,0 +1,128 @@
+-- `year_lines::sums_from` meets its contract: the sums of the lines before the one that the loop has come to, which stay small, and the standings that those lines hand on.
+-- Assumes nothing.
+use Prim.Native.Nat.{_+_, _-_, _≤_}
+use mathlib.Core.Path.{ap, sym, _∙_, _≡_}
+use native.Mathlib.Omega.{arith}
+use borrow.Author.Needs.{needs}
+use denote.Ref.{now}
+use Rattle.record_table.specs.Table.{lines}
+use Rattle.year_lines.specs.Lines.{all, lineIn, sumsOver}
+use Rattle.year_lines.proofs.Bounds.{sums-fit}
+use Rattle.year_lines.proofs.BySystem.{one-line-more}
+use Rattle.year_lines.proofs.Carrying.{Renewed, renewed-all, renewed-more, renewed-none}
+use Rattle.year_lines.proofs.sums_from.Statement.{statement}
+use Rattle.year_lines.proofs.sums_from.Tie as tie
+
+abbrev Inv-loop : tie.InvT-loop
+Inv-loop book year days factors standings₀ sums₀ line₀ standings sums line =
+    (1 ≤ line) × (line ≤ lines + 1) × Renewed book year line standings × (sums ≡ sumsOver (lineIn book year) all (line - 1))
+
+abbrev μ-loop : tie.MeasureT-loop
+μ-loop book year days factors standings₀ sums₀ line₀ standings sums line = lines + 1 - line
+
+days-requires : tie.Need-days-requires Inv-loop μ-loop
+days-requires c κs = search needs
+
+factors-requires : tie.Need-factors-requires Inv-loop μ-loop
+factors-requires c κs = search needs
+
+nothing-requires : tie.Need-nothing-requires Inv-loop μ-loop
+nothing-requires c κs = search needs
+
+loop-holds : tie.Need-loop-holds Inv-loop μ-loop
+unfolding sumsOver
+loop-holds c =
+    let start = c .before .before .before .before in
+    (omega arith, omega arith, renewed-none (now (start .args .book)) (start .args .year) (start .pre .1 .1), c .nothing .ensures)
+
+sub-from : tie.Need-sub-from Inv-loop μ-loop
+sub-from c = omega arith
+
+mul-from : tie.Need-mul-from Inv-loop μ-loop
+mul-from c = omega arith
+
+array-copy-out-from : tie.Need-array-copy-out-from Inv-loop μ-loop
+array-copy-out-from c = omega arith
+
+slice-aggregate-line-in : tie.Need-slice-aggregate-line-in Inv-loop μ-loop
+slice-aggregate-line-in c = sym (c .before .before .before .before .before .before .days .ensures .long)
+
+slice-aggregate-line-in-2 : tie.Need-slice-aggregate-line-in-2 Inv-loop μ-loop
+slice-aggregate-line-in-2 c = sym (c .before .before .before .before .before .before .factors .ensures .long)
+
+line-in-requires : tie.Need-line-in-requires Inv-loop μ-loop
+line-in-requires c κs =
+    let loop = c .before .before .before .before .loop in
+    let made = c .before .before .before .before .before .before in
+    let start = made .before .before .before in (
+      start .pre .0,
+      (
+        start .pre .1 .0,
+        (omega arith, (loop .inv .2 .left (loop .line) (omega arith) (omega arith), (made .before .days .ensures, made .factors .ensures))),
+      ),
+    )
+
+sub-standings : tie.Need-sub-standings Inv-loop μ-loop
+sub-standings c = omega arith
+
+mul-standings : tie.Need-mul-standings Inv-loop μ-loop
+mul-standings c = omega arith
+
+array-set-from-standings : tie.Need-array-set-from-standings Inv-loop μ-loop
+array-set-from-standings c = omega arith
+
+plus-requires : tie.Need-plus-requires Inv-loop μ-loop
+plus-requires c κs =
+    let loop = c .before .before .before .before .before .before .loop in
+    let start = c .before .before .before .before .before .before .before .before .before .before .before in
+    rw (loop .inv .3, c .before .line-in .ensures .0)
+    (sums-fit (now (start .args .book)) (start .pre .0) (start .args .year) (start .pre .1 .0) (loop .line - 1) (loop .line) (omega arith) (omega arith))
+
+add-line : tie.Need-add-line Inv-loop μ-loop
+add-line c = omega arith
+
+loop-less : tie.Need-loop-less Inv-loop μ-loop
+loop-less c = omega arith
+
+loop-again : tie.Need-loop-again Inv-loop μ-loop
+loop-again c =
+    let loop = c .before .before .before .before .before .before .before .loop in
+    let start = c .before .before .before .before .before .before .before .before .before .before .before .before in
+    let own = c .before .before .line-in .ensures in (
+      omega arith,
+      omega arith,
+      renewed-more (now (start .args .book)) (start .args .year) (loop .line) (omega arith) (omega arith) (own .1) (loop .inv .2),
+      one-line-more _ (loop .line) (omega arith) (loop .inv .3) (own .0) (c .plus .ensures),
+    )
+
+returns : tie.Need-returns Inv-loop μ-loop
+returns c =
+    let loop = c .before .loop in
+    let start = c .before .before .before .before .before .before in
+    let end : loop .line - 1 ≡ lines = omega arith in
+    (loop .inv .3 ∙ ap (sumsOver _ all) end, renewed-all (now (start .args .book)) (start .args .year) (omega arith) (loop .inv .2))
+
+pub sums-from-spec : {M : Type 1} → statement M
+sums-from-spec =
+    tie.close
+    (tie.spec
+    Inv-loop
+    μ-loop
+    days-requires
+    factors-requires
+    nothing-requires
+    loop-holds
+    sub-from
+    mul-from
+    array-copy-out-from
+    slice-aggregate-line-in
+    slice-aggregate-line-in-2
+    line-in-requires
+    sub-standings
+    mul-standings
+    array-set-from-standings
+    plus-requires
+    add-line
+    loop-less
+    loop-again
+    returns)

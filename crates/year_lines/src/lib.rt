@@ -1,0 +1,249 @@
+// The lines of a year: Equation 5.3 for the anaerobic ones, month by month from the first, and Equation 5.4
+// for the others.
+ghost use mathlib.Core.Path.{_≡_};
+ghost use mathlib.Core.Bool.{Bool, false};
+ghost use Prim.Native.Nat.{ℕ, _+_, _-_, _≤_};
+ghost use Rattle.calendar.specs.Days.{monthsInYear};
+ghost use Rattle.lagoon_run.specs.Run.{runOf, yearOf};
+ghost use Rattle.record_table.specs.Table.{lines, categories, months};
+ghost use Rattle.book.specs.Valid.{Valid};
+ghost use Rattle.book_herd.specs.Herd.{lineOf, drainedOf};
+ghost use Rattle.year_months.specs.Series.{monthsBefore, daysAt, factorAt};
+ghost use Rattle.year_months.specs.Asks.{InPeriod, Holds};
+ghost use Rattle.year_lines.specs.Lines.{headAt, enteredAt, monthAt, headsOf, otherOf, lineIn, all, sumsOf};
+ghost use Rattle.year_lines.specs.Asks.{Handed, Standings};
+use book_herd::Line;
+use book_slots::Seen;
+use lagoon_month::Standing;
+use lagoon_run::Totals;
+use units::Solids;
+use year_months::MONTHS_IN_YEAR;
+use year_sums::Sums;
+
+const LINES: usize = record_table::LINES;
+
+// LN's system 0.
+const ANAEROBIC: u64 = 0;
+
+// 12, for the average of the year's heads, times 10,000,000, which brings the fields' units to grams.
+const DAILY_PARTS: u64 = 120_000_000;
+
+// A year counts 365 days, in leap years too.
+const DAYS_IN_YEAR: u64 = 365;
+
+// A conversion factor counts ten-thousandths.
+const CONVERSION_PARTS: u64 = 10_000;
+
+// A line in a year: its sums, and the standing that the year hands on.
+struct LineYear {
+    sums: Sums,
+    standing: Standing,
+}
+
+// All lines of a year together, with the standing that each hands on.
+struct LinesYear {
+    sums: Sums,
+    standings: [Standing; LINES],
+}
+
+// All lines of a year. The standing that each has from the years before is worked out first, from the first
+// month.
+pub fn sums_of(book: &[u8], year: usize) -> Sums
+    requires { ⌜ Valid (now book) ⌝ }
+    requires { ⌜ InPeriod year ⌝ }
+    ensures { λ r. ⌜ r ≡ sumsOf (now (book .entry)) year all ⌝ }
+{
+    let whole = sums_from(book, year, standings_before(book, year));
+    whole.sums
+}
+
+// The standing that each line has from the years before: one after the other, from empty lagoons.
+fn standings_before(book: &[u8], year: usize) -> [Standing; LINES]
+    requires { ⌜ Valid (now book) ⌝ }
+    requires { ⌜ InPeriod year ⌝ }
+    ensures { λ r. ⌜ Standings (now (book .entry)) (year - 1) r ⌝ }
+{
+    let empty = Standing::empty();
+    let mut standings = [empty; LINES];
+    for earlier in 1..year {
+        let past = sums_from(book, earlier, standings);
+        standings = past.standings;
+    }
+    standings
+}
+
+// All lines, each from the standing that the year before handed on. Days and factors are the months'
+// alone, and worked out once.
+fn sums_from(book: &[u8], year: usize, before: [Standing; LINES]) -> LinesYear
+    requires { ⌜ Valid (now book) ⌝ }
+    requires { ⌜ InPeriod year ⌝ }
+    requires { ⌜ Standings (now book) (year - 1) before ⌝ }
+    ensures { λ r. ⌜ r .sums ≡ sumsOf (now (book .entry)) year all ⌝ }
+    ensures { λ r. ⌜ Standings (now (book .entry)) year (r .standings) ⌝ }
+{
+    let days = year_months::days(book, year);
+    let factors = year_months::factors(book, year);
+    let mut standings = before;
+    let mut sums = Sums::nothing();
+    for line in 1..=LINES {
+        let from = standings[line - 1];
+        let own = line_in(book, year, line, from, &days, &factors);
+        let next = own.standing;
+        standings[line - 1] = next;
+        sums = sums.plus(own.sums);
+    }
+    LinesYear { sums, standings }
+}
+
+// One line, by its system, from the standing that the year before handed on. A line of another system than
+// the anaerobic has no standing: the one it is given is handed on as it is, and nothing reads it.
+fn line_in(
+    book: &[u8],
+    year: usize,
+    line: usize,
+    from: Standing,
+    days: &[u64],
+    factors: &[u64],
+) -> LineYear
+    requires { ⌜ Valid (now book) ⌝ }
+    requires { ⌜ InPeriod year ⌝ }
+    requires { ⌜ line ≤ lines ⌝ }
+    requires { ⌜ Handed (now book) (year - 1) line from ⌝ }
+    requires { ⌜ Holds ℕ 0 (monthsBefore year) monthsInYear (daysAt (now book)) (now days) ⌝ }
+    requires { ⌜ Holds ℕ 0 (monthsBefore year) monthsInYear (factorAt (now book)) (now factors) ⌝ }
+    ensures { λ r. ⌜ r .sums ≡ lineIn (now (book .entry)) year line ⌝ }
+    ensures { λ r. ⌜ Handed (now (book .entry)) year line (r .standing) ⌝ }
+{
+    let Seen::Value(system) = book_herd::system(book, line) else {
+        return LineYear {
+            sums: Sums::nothing(),
+            standing: from,
+        };
+    };
+    let numbers = book_herd::line_at(book, line);
+    if system == ANAEROBIC {
+        let totals = solids(book, year, line, numbers, from, days, factors);
+        let standing = totals.standing;
+        return LineYear {
+            sums: Sums::anaerobic(totals, numbers.b0),
+            standing,
+        };
+    }
+    LineYear {
+        sums: other(book, year, line, numbers),
+        standing: from,
+    }
+}
+
+// The year's solids of an anaerobic line, from what it entered and when it was drained: its twelve
+// months, from the standing that those before them handed on.
+fn solids(
+    book: &[u8],
+    year: usize,
+    line: usize,
+    numbers: Line,
+    from: Standing,
+    days: &[u64],
+    factors: &[u64],
+) -> Totals
+    requires { ⌜ Valid (now book) ⌝ }
+    requires { ⌜ InPeriod year ⌝ }
+    requires { ⌜ line ≤ lines ⌝ }
+    requires { ⌜ numbers ≡ lineOf (now book) line ⌝ }
+    requires { ⌜ from ≡ runOf (monthAt (now book) line) (monthsBefore year) .standing ⌝ }
+    requires { ⌜ Holds ℕ 0 (monthsBefore year) monthsInYear (daysAt (now book)) (now days) ⌝ }
+    requires { ⌜ Holds ℕ 0 (monthsBefore year) monthsInYear (factorAt (now book)) (now factors) ⌝ }
+    ensures { λ r. ⌜ r ≡ yearOf (monthAt (now (book .entry)) line) year ⌝ }
+{
+    let entered = entries(book, year, line, numbers, days);
+    let drained = drains(book, year, line);
+    lagoon_run::run(from, &entered, factors, &drained)
+}
+
+// What a line enters, month by month of the year, in grams.
+fn entries(
+    book: &[u8],
+    year: usize,
+    line: usize,
+    numbers: Line,
+    days: &[u64],
+) -> [u64; MONTHS_IN_YEAR]
+    requires { ⌜ Valid (now book) ⌝ }
+    requires { ⌜ InPeriod year ⌝ }
+    requires { ⌜ line ≤ lines ⌝ }
+    requires { ⌜ numbers ≡ lineOf (now book) line ⌝ }
+    requires { ⌜ Holds ℕ 0 (monthsBefore year) monthsInYear (daysAt (now book)) (now days) ⌝ }
+    ensures { λ r. ⌜ Holds ℕ 0 (monthsBefore year) monthsInYear (λ m. enteredAt (now (book .entry)) line m .0) r ⌝ }
+{
+    let before = year_months::months_before(year);
+    let mut entries = [0u64; MONTHS_IN_YEAR];
+    for passed in 0..MONTHS_IN_YEAR {
+        let month = before + passed + 1;
+        entries[passed] = entry(book, line, numbers, month, days[passed]).grams();
+    }
+    entries
+}
+
+fn entry(book: &[u8], line: usize, numbers: Line, month: usize, days: u64) -> Solids
+    requires { ⌜ Valid (now book) ⌝ }
+    requires { ⌜ (line ≤ lines) × (month ≤ months) ⌝ }
+    requires { ⌜ numbers ≡ lineOf (now book) line ⌝ }
+    requires { ⌜ days ≡ daysAt (now book) month ⌝ }
+    ensures { λ r. ⌜ r ≡ enteredAt (now (book .entry)) line month ⌝ }
+{
+    let head = head(book, numbers.category as usize, month);
+    lagoon_month::entered(head, numbers.solids, numbers.mass, numbers.share, days)
+}
+
+fn head(book: &[u8], category: usize, month: usize) -> u64
+    requires { ⌜ Valid (now book) ⌝ }
+    requires { ⌜ (category ≤ categories) × (month ≤ months) ⌝ }
+    ensures { λ r. ⌜ r ≡ headAt (now (book .entry)) category month ⌝ }
+{
+    year_months::amount(book_herd::head(book, category, month))
+}
+
+// When a line was drained, month by month of the year.
+fn drains(book: &[u8], year: usize, line: usize) -> [bool; MONTHS_IN_YEAR]
+    requires { ⌜ Valid (now book) ⌝ }
+    requires { ⌜ InPeriod year ⌝ }
+    requires { ⌜ line ≤ lines ⌝ }
+    ensures { λ r. ⌜ Holds Bool false (monthsBefore year) monthsInYear (drainedOf (now (book .entry)) line) r ⌝ }
+{
+    let before = year_months::months_before(year);
+    let mut drains = [false; MONTHS_IN_YEAR];
+    for passed in 0..MONTHS_IN_YEAR {
+        drains[passed] = book_herd::drained(book, line, before + passed + 1);
+    }
+    drains
+}
+
+// The sum of the year's twelve heads.
+fn heads(book: &[u8], year: usize, category: usize) -> u64
+    requires { ⌜ Valid (now book) ⌝ }
+    requires { ⌜ InPeriod year ⌝ }
+    requires { ⌜ category ≤ categories ⌝ }
+    ensures { λ r. ⌜ r ≡ headsOf (now (book .entry)) year category ⌝ }
+{
+    let before = year_months::months_before(year);
+    let mut heads = 0;
+    for month in 1..=MONTHS_IN_YEAR {
+        heads += head(book, category, before + month);
+    }
+    heads
+}
+
+// Another line, by the sum of its heads: each division rounds down.
+fn other(book: &[u8], year: usize, line: usize, numbers: Line) -> Sums
+    requires { ⌜ Valid (now book) ⌝ }
+    requires { ⌜ InPeriod year ⌝ }
+    requires { ⌜ line ≤ lines ⌝ }
+    requires { ⌜ numbers ≡ lineOf (now book) line ⌝ }
+    ensures { λ r. ⌜ r ≡ otherOf (headsOf (now (book .entry)) year (numbers .category)) numbers ⌝ }
+{
+    let heads = heads(book, year, numbers.category as usize);
+    let daily = heads * numbers.solids * numbers.mass * numbers.share / DAILY_PARTS;
+    let yearly = Solids::of_grams(daily * DAYS_IN_YEAR);
+    let degraded = yearly.share(numbers.conversion, CONVERSION_PARTS);
+    Sums::baseline_alone(degraded.b0_rule(numbers.b0, units::POTENTIAL))
+}
