@@ -5,7 +5,7 @@ use Prim.Native.Nat.{ℕ, zero, suc, _+_, _*_, _-_, _/_, _≤_}
 use native.Mathlib.Omega.{arith}
 use lib.ListN.{length, take, drop, length-append, length-drop}
 use lib.Seq.{take-append-le, drop-append-le, drop-at, drop-drop}
-use Rattle.record_table.specs.Number.{recordBytes}
+use Rattle.record_table.specs.Table.{recordBytes}
 use Rattle.book.specs.Book.{recordAt, answerOf, bookAfter}
 use Rattle.book.specs.Run.{recordsFrom, recordsOf, onward, answerAll, bookAll}
 use Rattle.book.specs.declared.Posted.{Posted}
@@ -55,23 +55,20 @@ blocks a b n l =
     let t : (length (a ++ b) + (recordBytes - 1)) / recordBytes ≡ n + m = omega (arith, length-append a b) in
     ap (recordsFrom (a ++ b) 0) t ∙ both a b n l m 0 n (omega arith) ∙ ap (λ (k : ℕ). recordsFrom a 0 k ++ recordsFrom b 0 m) (sym c)
 
--- posting the one, and then, if nothing was refused, the other, is posting both
-book-by : (p : Posted) (after : List ℕ) (rs ss : List (List ℕ)) → bookAll after (rs ++ ss) ≡ onward (answerAll after rs) (bookAll (bookAll after rs) ss) (bookAll after rs)
-    → onward p (bookAll after (rs ++ ss)) after ≡ onward (onward p (answerAll after rs) p) (bookAll (onward p (bookAll after rs) after) ss) (onward p (bookAll after rs) after)
-book-by Taken after rs ss later = later
-book-by (Refused number place) after rs ss later = refl
+-- posting the one, and then, if nothing was refused, the other, is posting both: one law over what is asked of them, the book or the answer
+by :
+    {A : Type 0} (asked : List ℕ → List (List ℕ) → A) (stop : A) (p : Posted) (after : List ℕ) (rs ss : List (List ℕ)) →
+    asked after (rs ++ ss) ≡ onward (answerAll after rs) (asked (bookAll after rs) ss) (asked after rs) →
+    onward p (asked after (rs ++ ss)) stop ≡ onward (onward p (answerAll after rs) p) (asked (onward p (bookAll after rs) after) ss) (onward p (asked after rs) stop)
+by asked stop Taken after rs ss later = later
+by asked stop (Refused x) after rs ss later = refl
 
 pub book-both : (book : List ℕ) (rs ss : List (List ℕ)) → bookAll book (rs ++ ss) ≡ onward (answerAll book rs) (bookAll (bookAll book rs) ss) (bookAll book rs)
 unfolding answerAll bookAll
 book-both book [] ss = refl
-book-both book (r ∷ rs) ss = book-by (answerOf book r) (bookAfter book r) rs ss (book-both (bookAfter book r) rs ss)
-
-answer-by : (p : Posted) (after : List ℕ) (rs ss : List (List ℕ)) → answerAll after (rs ++ ss) ≡ onward (answerAll after rs) (answerAll (bookAll after rs) ss) (answerAll after rs)
-    → onward p (answerAll after (rs ++ ss)) p ≡ onward (onward p (answerAll after rs) p) (answerAll (onward p (bookAll after rs) after) ss) (onward p (answerAll after rs) p)
-answer-by Taken after rs ss later = later
-answer-by (Refused number place) after rs ss later = refl
+book-both book (r ∷ rs) ss = by bookAll (bookAfter book r) (answerOf book r) (bookAfter book r) rs ss (book-both (bookAfter book r) rs ss)
 
 pub answer-both : (book : List ℕ) (rs ss : List (List ℕ)) → answerAll book (rs ++ ss) ≡ onward (answerAll book rs) (answerAll (bookAll book rs) ss) (answerAll book rs)
 unfolding answerAll bookAll
 answer-both book [] ss = refl
-answer-both book (r ∷ rs) ss = answer-by (answerOf book r) (bookAfter book r) rs ss (answer-both (bookAfter book r) rs ss)
+answer-both book (r ∷ rs) ss = by answerAll (answerOf book r) (answerOf book r) (bookAfter book r) rs ss (answer-both (bookAfter book r) rs ss)

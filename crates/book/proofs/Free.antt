@@ -7,15 +7,15 @@ use native.Mathlib.Nat.{add-zero}
 use native.Mathlib.Omega.{arith}
 use borrow.Author.Tests.{eq-eqb}
 use lib.Dec.{eqb}
-use lib.ListN.{getD, replicate}
-use Rattle.record_table.specs.Number.{recordBytes}
-use Rattle.book.specs.Book.{recordAt, free}
-use Rattle.book.proofs.Filling.{slot-byte}
+use lib.ListN.{getD}
+use Rattle.record_table.specs.Table.{recordBytes}
+use Rattle.book.specs.Book.{recordAt, free, nothing}
+use Rattle.book.proofs.Slot.{slot-byte}
 
 pub first-byte : (book : List ℕ) (k : ℕ) → getD (recordAt book k) 0 0 ≡ getD book (k * recordBytes) 0
 first-byte book k = slot-byte book k 0 (omega arith) ∙ ap (λ (i : ℕ). getD book i 0) (add-zero (k * recordBytes))
 
-pub empty-free : (book : List ℕ) (k : ℕ) → recordAt book k ≡ replicate recordBytes 0 → free book k ≡ true
+pub empty-free : (book : List ℕ) (k : ℕ) → recordAt book k ≡ nothing → free book k ≡ true
 unfolding free
 empty-free book k e = eq-eqb _ _ (sym (first-byte book k) ∙ ap (λ (l : List ℕ). getD l 0 0) e)
 

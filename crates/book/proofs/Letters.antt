@@ -1,22 +1,22 @@
 -- A record that is taken starts with a letter, so a filled slot never looks empty. Assumes nothing.
 use mathlib.Core.Path.{_≡_, refl, sym, ap, _∙_}
-use mathlib.Core.Bool.{Bool, true, false, cond, not}
+use mathlib.Core.Bool.{Bool, true, false, cond, not, true≢false}
 use mathlib.Core.List.{List, [], _∷_}
 use mathlib.Core.Logic.{⊎-elim}
 use Prim.Native.Nat.{ℕ, suc, _+_, _*_, _%_, _<_}
 use native.Mathlib.Omega.{arith}
 use borrow.Author.Tests.{eqb-true, eqb-false, ne-eqb}
 use lib.Dec.{T, eqb}
-use lib.ListN.{length, getD, replicate}
+use lib.ListN.{length, getD}
 use Rattle.laws.proofs.Table.{each, at}
 use Rattle.record_table.specs.Table.{Row, noRow, table}
-use Rattle.record_table.specs.Number.{recordBytes, numberAt}
+use Rattle.number_bytes.specs.Number.{numberAt}
 use Rattle.record_table.specs.Slot.{slots}
 use Rattle.record_judge.specs.Record.{rowIn, rowOf, judged}
-use Rattle.record_judge.specs.declared.Judged.the-variants.{Fill}
+use Rattle.record_judge.specs.declared.Judged.the-variants.{Put}
 use Rattle.record_judge.proofs.Taken.{taken}
-use Rattle.book.specs.Book.{recordAt, free}
-use Rattle.book.specs.Valid.{Valid}
+use Rattle.book.specs.Book.{recordAt, free, nothing}
+use Rattle.book.specs.Valid.{Stands, Valid}
 use Rattle.book.proofs.Free.{first-byte, empty-free}
 
 -- the row that is found has the letters
@@ -43,7 +43,7 @@ first-letter : (row : ℕ) → row < length table → getD table row noRow .lett
 unfolding lettered each
 first-letter row h = not-zero _ (eqb (getD table row noRow .letters % 256) 0) refl (at lettered (length table) tt row h)
 
-pub starts : (r : List ℕ) (k : ℕ) → judged r ≡ Fill k → getD r 0 0 ≡ 0 → ⊥
+pub starts : (r : List ℕ) (k : ℕ) → judged r ≡ Put k → getD r 0 0 ≡ 0 → ⊥
 unfolding rowOf numberAt
 starts r k e z =
     let w = getD r 0 0 + 256 * (getD r 1 0 + 256 * 0) in
@@ -51,17 +51,14 @@ starts r k e z =
     let f : getD table (rowIn w table) noRow .letters ≡ w = found w table h in
     first-letter (rowIn w table) h (ap (λ (n : ℕ). n % 256) f ∙ omega arith)
 
--- so a slot that holds a record is filled, and in a book one that is free is empty, and one that is filled holds a record taken for it
-pub held-filled : (book : List ℕ) (k j : ℕ) → judged (recordAt book k) ≡ Fill j → free book k ≡ false
+-- so a slot that holds a record is filled, and in a book one that is free is empty, and one that is filled holds what posting puts there
+pub held-filled : (book : List ℕ) (k j : ℕ) → judged (recordAt book k) ≡ Put j → free book k ≡ false
 unfolding free
 held-filled book k j e = ne-eqb _ _ (λ z. starts (recordAt book k) j e (first-byte book k ∙ z))
 
-no : {X : Type 0} → true ≡ false → X
-no e = let z : _≡_ {A = ℕ} 0 1 = cc in let f : ⊥ = omega arith in absurd f
-
 module _ (book : List ℕ) (k : ℕ) (v : Valid book) (h : k < slots) where
-  pub free-empty : free book k ≡ true → recordAt book k ≡ replicate recordBytes 0
-  free-empty f = ⊎-elim (λ e. e) (λ e. no (sym f ∙ held-filled book k k e)) (v .each k h)
+  pub free-empty : free book k ≡ true → recordAt book k ≡ nothing
+  free-empty f = ⊎-elim (λ e. e) (λ e. absurd (true≢false (sym f ∙ held-filled book k k (e .judged-so)))) (v .each k h)
 
-  pub filled-held : free book k ≡ false → judged (recordAt book k) ≡ Fill k
-  filled-held f = ⊎-elim (λ e. no (sym (empty-free book k e) ∙ f)) (λ e. e) (v .each k h)
+  pub filled-held : free book k ≡ false → Stands k (recordAt book k)
+  filled-held f = ⊎-elim (λ e. absurd (true≢false (sym (empty-free book k e) ∙ f))) (λ e. e) (v .each k h)

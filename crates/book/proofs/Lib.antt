@@ -1,9 +1,10 @@
 pub mod Blocks
 pub mod Cleared
 pub mod Determined
-pub mod Filling
 pub mod Free
 pub mod Kept
 pub mod Letters
 pub mod Runs
 pub mod Size
+pub mod Slot
+pub mod Taking

@@ -7,18 +7,16 @@ use native.Mathlib.Nat.{sub-zero}
 use native.Mathlib.Omega.{arith}
 use lib.ListN.{length, take, drop, length-take, length-drop}
 use lib.Seq.{take-all}
-use Rattle.record_table.specs.Number.{recordBytes}
+use Rattle.refusals.specs.declared.Refusal.{Refusal}
+use Rattle.record_table.specs.Table.{recordBytes}
 use Rattle.record_table.proofs.Slots.{lt-or-ge}
-use Rattle.record_judge.specs.Record.{judged}
-use Rattle.record_judge.specs.declared.Judged.{Judged}
-use Rattle.record_judge.specs.declared.Judged.the-variants.{Wrong, Fill}
-use Rattle.record_judge.proofs.Taken.{taken}
-use Rattle.book.specs.Book.{recordAt, answerBy, answerOf, bookAfter}
+use Rattle.book.specs.Book.{recordAt, answerOf, bookAfter}
 use Rattle.book.specs.Valid.{Valid}
 use Rattle.book.specs.Run.{recordsFrom, recordsOf, onward, answerAll, bookAll}
 use Rattle.book.specs.declared.Posted.{Posted}
 use Rattle.book.specs.declared.Posted.the-variants.{Taken, Refused}
 use Rattle.book.proofs.Kept.{kept}
+use Rattle.book.proofs.Taking.{whole}
 
 -- the records from a place on, which is a multiple of a record's bytes
 unfoldable pub rest : List ℕ → ℕ → List (List ℕ)
@@ -58,16 +56,6 @@ next-record run at m h =
     ap (λ (n : ℕ). take n (drop at run)) w ∙ ap (λ (p : ℕ). take recordBytes (drop p run)) (sym e))
     (lt-or-ge (length run) (at + recordBytes))
 
--- a record that is taken is whole
-whole-by : (book r : List ℕ) (found : Judged) → judged r ≡ found → answerBy book found ≡ Taken → length r ≡ recordBytes
-unfolding answerBy
-whole-by book r (Wrong number place) e t = let z : _≡_ {A = ℕ} 0 1 = cc in let f : ⊥ = omega arith in absurd f
-whole-by book r (Fill k) e t = taken r k e .long
-
-pub whole : (book r : List ℕ) → answerOf book r ≡ Taken → length r ≡ recordBytes
-unfolding answerOf
-whole book r t = whole-by book r (judged r) refl t
-
 pub record Going (start run book : List ℕ) (at : ℕ) : Type 0 where
   pub place : at % recordBytes ≡ 0
   pub valid : Valid book
@@ -99,10 +87,10 @@ module _ (first run book : List ℕ) (at : ℕ) (g : Going first run book at) wh
         })
 
     pub stopped :
-        (number place : ℕ) → answerOf book r ≡ Refused number place →
-        (Refused number place ≡ answerAll first (recordsOf run)) × (bookAfter book r ≡ bookAll first (recordsOf run))
+        (x : Refusal) → answerOf book r ≡ Refused x →
+        (Refused x ≡ answerAll first (recordsOf run)) × (bookAfter book r ≡ bookAll first (recordsOf run))
     unfolding answerAll bookAll
-    stopped number place t = (
+    stopped x t = (
       sym (g .answer ∙ ap (answerAll book) some ∙ ap (λ (p : Posted). onward p (answerAll (bookAfter book r) (rest run (at + recordBytes))) p) t),
       sym (g .after ∙ ap (bookAll book) some ∙ ap (λ (p : Posted). onward p (bookAll (bookAfter book r) (rest run (at + recordBytes))) (bookAfter book r)) t),
     )

@@ -3,8 +3,9 @@
 use Prim.Native.Nat.{ℕ, _+_, _*_}
 use mathlib.Core.{Bool.Bool, Bool.cond, List.List, List._++_}
 use lib.{Dec.eqb, ListN.getD, ListN.take, ListN.drop, ListN.replicate}
-use Rattle.record_table.specs.{Number.recordBytes, Slot.slots}
-use Rattle.record_judge.specs.{Record.judged, declared.Judged.Judged, declared.Judged.the-variants.Wrong, declared.Judged.the-variants.Fill}
+use Rattle.record_table.specs.{Table.recordBytes, Slot.slots}
+use Rattle.refusals.specs.Refusal.{refusal, alreadyFilled}
+use Rattle.record_judge.specs.{Record.judged, Record.storedOf, declared.Judged.Judged, declared.Judged.the-variants.Refused as RefusedRecord, declared.Judged.the-variants.Put, declared.Judged.the-variants.Empty}
 use Rattle.book.specs.declared.Posted.{Posted, the-variants.Taken, the-variants.Refused}
 
 abbrev pub bookBytes : ℕ
@@ -18,18 +19,25 @@ recordAt bytes k = take recordBytes (drop (k * recordBytes) bytes)
 unfoldable pub free : List ℕ → ℕ → Bool
 free book k = eqb (getD book (k * recordBytes) 0) 0
 
--- the book with a record in slot k
-unfoldable pub filledWith : List ℕ → ℕ → List ℕ → List ℕ
-filledWith book k r = take (k * recordBytes) book ++ (r ++ drop (k * recordBytes + recordBytes) book)
+-- the sixteen bytes of a slot in which nothing stands
+abbrev pub nothing : List ℕ
+nothing = replicate recordBytes 0
 
--- what posting answers, and the book afterwards, by what the record alone decides: a slot already filled is refusal 5
+-- the book with these sixteen bytes in slot k
+unfoldable pub bookWith : List ℕ → ℕ → List ℕ → List ℕ
+bookWith book k bytes = take (k * recordBytes) book ++ (bytes ++ drop (k * recordBytes + recordBytes) book)
+
+-- What posting answers, and the book afterwards, by what the record is judged to do. Bytes are put into a slot that is not filled, and refused where it
+-- is. Emptying a slot is taken whatever stands there: no mark of the table does it yet.
 unfoldable pub answerBy : List ℕ → Judged → Posted
-answerBy book (Wrong number place) = Refused number place
-answerBy book (Fill k) = cond (free book k) Taken (Refused 5 0)
+answerBy book (RefusedRecord refusal) = Refused refusal
+answerBy book (Put k) = cond (free book k) Taken (Refused (refusal alreadyFilled 0))
+answerBy book (Empty k) = Taken
 
 unfoldable pub bookBy : List ℕ → List ℕ → Judged → List ℕ
-bookBy book r (Wrong number place) = book
-bookBy book r (Fill k) = cond (free book k) (filledWith book k r) book
+bookBy book r (RefusedRecord refusal) = book
+bookBy book r (Put k) = cond (free book k) (bookWith book k (storedOf r)) book
+bookBy book r (Empty k) = bookWith book k nothing
 
 unfoldable pub answerOf : List ℕ → List ℕ → Posted
 answerOf book r = answerBy book (judged r)

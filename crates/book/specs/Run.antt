@@ -3,7 +3,7 @@
 use Prim.Native.Nat.{ℕ, zero, suc, _+_, _-_, _/_}
 use mathlib.Core.List.{List, [], _∷_}
 use lib.ListN.{length}
-use Rattle.record_table.specs.Number.{recordBytes}
+use Rattle.record_table.specs.Table.{recordBytes}
 use Rattle.book.specs.Book.{recordAt, answerOf, bookAfter}
 use Rattle.book.specs.declared.Posted.{Posted, the-variants.Taken, the-variants.Refused}
 
@@ -18,7 +18,7 @@ recordsOf bytes = recordsFrom bytes 0 ((length bytes + (recordBytes - 1)) / reco
 -- go on after a record that is taken, and stop at one that is refused
 abbrev pub onward : {A : Type 0} → Posted → A → A → A
 onward Taken further stop = further
-onward (Refused number place) further stop = stop
+onward (Refused refusal) further stop = stop
 
 -- the first refusal, or that all are taken; and the book afterwards
 unfoldable pub answerAll : List ℕ → List (List ℕ) → Posted

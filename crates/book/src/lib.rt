@@ -1,24 +1,23 @@
 // The book of records: lent memory, sixteen bytes a slot.
 use record_judge::Judged;
+use refusals::Refusal;
 ghost use mathlib.Core.Path.{_≡_};
-ghost use mathlib.Core.Bool.{cond};
 ghost use Prim.Native.Nat.{_+_, _<_, min};
 ghost use lib.ListN.{length};
-ghost use Rattle.record_table.specs.Number.{recordBytes};
+ghost use Rattle.record_table.specs.Table.{recordBytes};
 ghost use Rattle.record_table.specs.Slot.{slots};
-ghost use Rattle.book.specs.declared.Posted.the-variants.{Taken, Refused};
-ghost use Rattle.book.specs.Book.{bookBytes, free, filledWith, answerOf, bookAfter, emptyBook};
+ghost use Rattle.record_judge.specs.declared.Judged.the-variants.{Put};
+ghost use Rattle.book.specs.declared.Posted.the-variants.{Taken};
+ghost use Rattle.book.specs.Book.{bookBytes, nothing, bookWith, answerBy, bookBy, answerOf, bookAfter, emptyBook};
 ghost use Rattle.book.specs.Valid.{Valid};
 ghost use Rattle.book.specs.Run.{recordsOf, answerAll, bookAll};
 
 pub const BYTES: usize = record_table::SLOTS * record_table::RECORD;
 
-const ALREADY_FILLED: u8 = 5;
-
-// What posting answers: a refusal by its number and its place.
+// What posting answers.
 pub enum Posted {
     Taken,
-    Refused(u8, usize),
+    Refused(Refusal),
 }
 
 // Makes lent memory an empty book.
@@ -33,32 +32,52 @@ pub fn empty(book: &mut [u8])
     }
 }
 
-// Posts a record: fills its key's slot, or changes nothing.
+// Posts a record: carries out what it is judged to do, or changes nothing.
 pub fn post(book: &mut [u8], posted: &[u8]) -> Posted
     requires { ⌜ Valid (now book) ⌝ }
     ensures { λ r. ⌜ r ≡ answerOf (now (book .entry)) (now (posted .entry)) ⌝ }
     ensures { λ _. ⌜ now (book .exit) ≡ bookAfter (now (book .entry)) (now (posted .entry)) ⌝ }
 {
     match record_judge::judge(posted) {
-        Judged::Wrong(number, place) => Posted::Refused(number, place),
-        Judged::Fill(slot) => fill(book, slot, posted),
+        Judged::Refused(refusal) => Posted::Refused(refusal),
+        Judged::Put(slot) => put(book, slot, posted),
+        Judged::Empty(slot) => clear(book, slot),
     }
 }
 
-// Copied through an array of its own, the record is moved as one.
-fn fill(book: &mut [u8], slot: usize, posted: &[u8]) -> Posted
+// Puts a record's bytes into a slot that is not filled.
+fn put(book: &mut [u8], slot: usize, posted: &[u8]) -> Posted
     requires { ⌜ (length (now book) ≡ bookBytes) × (slot < slots) × (length (now posted) ≡ recordBytes) ⌝ }
-    ensures { λ r. ⌜ r ≡ cond (free (now (book .entry)) slot) Taken (Refused 5 0) ⌝ }
-    ensures { λ _. ⌜ now (book .exit) ≡ cond (free (now (book .entry)) slot) (filledWith (now (book .entry)) slot (now (posted .entry))) (now (book .entry)) ⌝ }
+    ensures { λ r. ⌜ r ≡ answerBy (now (book .entry)) (Put slot) ⌝ }
+    ensures { λ _. ⌜ now (book .exit) ≡ bookBy (now (book .entry)) (now (posted .entry)) (Put slot) ⌝ }
+{
+    if book[slot * record_table::RECORD] != 0 {
+        return Posted::Refused(Refusal {
+            number: refusals::ALREADY_FILLED,
+            place: 0,
+        });
+    }
+    let record = record_judge::stored(posted);
+    write(book, slot, &record);
+    Posted::Taken
+}
+
+fn clear(book: &mut [u8], slot: usize) -> Posted
+    requires { ⌜ (length (now book) ≡ bookBytes) × (slot < slots) ⌝ }
+    ensures { λ r. ⌜ r ≡ Taken ⌝ }
+    ensures { λ _. ⌜ now (book .exit) ≡ bookWith (now (book .entry)) slot nothing ⌝ }
+{
+    write(book, slot, &[0u8; record_table::RECORD]);
+    Posted::Taken
+}
+
+// From an array of the caller's own, sixteen bytes are moved as one.
+fn write(book: &mut [u8], slot: usize, content: &[u8])
+    requires { ⌜ (length (now book) ≡ bookBytes) × (slot < slots) × (length (now content) ≡ recordBytes) ⌝ }
+    ensures { λ _. ⌜ now (book .exit) ≡ bookWith (now (book .entry)) slot (now (content .entry)) ⌝ }
 {
     let at = slot * record_table::RECORD;
-    if book[at] != 0 {
-        return Posted::Refused(ALREADY_FILLED, 0);
-    }
-    let mut record = [0u8; record_table::RECORD];
-    bytes::copy(posted, &mut record);
-    bytes::copy(&record, &mut book[at..at + record_table::RECORD]);
-    Posted::Taken
+    bytes::copy(content, &mut book[at..at + record_table::RECORD]);
 }
 
 // Posts a run of bytes record by record, and stops at the first that is refused.
@@ -71,8 +90,8 @@ pub fn post_all(book: &mut [u8], run: &[u8]) -> Posted
     while at < run.len() {
         let end = record_end(run.len(), at);
         let answer = post(book, &run[at..end]);
-        if let Posted::Refused(number, place) = answer {
-            return Posted::Refused(number, place);
+        if let Posted::Refused(refusal) = answer {
+            return Posted::Refused(refusal);
         }
         at = end;
     }

@@ -1,12 +1,12 @@
 // The lines and the heads that a book holds: each field of LN and of HD, and the drain marks of a line.
 use book_slots::Seen;
 use record_fields::Field;
-use record_judge::table;
+use record_judge::rows;
 ghost use mathlib.Core.Path.{_≡_};
 ghost use mathlib.Core.List.{[], _∷_};
 ghost use Prim.Native.Nat.{_+_, _*_, _≤_};
-ghost use Rattle.record_table.specs.Table.{lines, categories, months, ln};
-ghost use Rattle.record_table.specs.Number.{recordBytes, numberAt};
+ghost use Rattle.record_table.specs.Table.{lines, categories, months, ln, recordBytes};
+ghost use Rattle.number_bytes.specs.Number.{numberAt};
 ghost use Rattle.record_table.specs.Slot.{slotOf};
 ghost use Rattle.book.specs.Valid.{Valid};
 ghost use Rattle.book_slots.specs.Field.{seenAt};
@@ -26,14 +26,14 @@ pub fn system(book: &[u8], line: usize) -> Seen
     requires { ⌜ (Valid (now book)) × (line ≤ lines) ⌝ }
     ensures { λ r. ⌜ r ≡ systemOf (now (book .entry)) line ⌝ }
 {
-    line_field(book, line, table::LN_SYSTEM)
+    line_field(book, line, rows::LN_SYSTEM)
 }
 
 pub fn category(book: &[u8], line: usize) -> Seen
     requires { ⌜ (Valid (now book)) × (line ≤ lines) ⌝ }
     ensures { λ r. ⌜ r ≡ categoryOf (now (book .entry)) line ⌝ }
 {
-    line_field(book, line, table::LN_CATEGORY)
+    line_field(book, line, rows::LN_CATEGORY)
 }
 
 // All numbers of a line at once, 0 where no LN stands.
@@ -42,13 +42,13 @@ pub fn line_at(book: &[u8], line: usize) -> Line
     ensures { λ r. ⌜ r ≡ lineOf (now (book .entry)) line ⌝ }
 {
     Line {
-        system: line_number(book, line, table::LN_SYSTEM),
-        category: line_number(book, line, table::LN_CATEGORY),
-        solids: line_number(book, line, table::LN_TABLE_SOLIDS),
-        mass: line_number(book, line, table::LN_MASS),
-        share: line_number(book, line, table::LN_SHARE),
-        b0: line_number(book, line, table::LN_B0),
-        conversion: line_number(book, line, table::LN_CONVERSION_FACTOR),
+        system: line_number(book, line, rows::LN_SYSTEM),
+        category: line_number(book, line, rows::LN_CATEGORY),
+        solids: line_number(book, line, rows::LN_TABLE_SOLIDS),
+        mass: line_number(book, line, rows::LN_MASS),
+        share: line_number(book, line, rows::LN_SHARE),
+        b0: line_number(book, line, rows::LN_B0),
+        conversion: line_number(book, line, rows::LN_CONVERSION_FACTOR),
     }
 }
 
@@ -59,7 +59,7 @@ pub fn head(book: &[u8], category: usize, month: usize) -> Seen
     book_slots::read(
         book,
         record_table::head_slot(category, month),
-        table::HD_HEAD,
+        rows::HD_HEAD,
     )
 }
 

@@ -1,6 +1,6 @@
 -- The range of each read of a valid book, from the table, by one law. Assumes nothing.
 use mathlib.Core.Path.{_≡_, refl}
-use mathlib.Core.Bool.{Bool, true, false, cond, _&&_}
+use mathlib.Core.Bool.{Bool, true, false, cond}
 use mathlib.Core.List.{List, [], _∷_}
 use Prim.Native.Nat.{ℕ, _≤_, _<_}
 use native.Mathlib.Omega.{arith}
@@ -9,11 +9,11 @@ use lib.IntN.{ℤ, pos, negℤ}
 use lib.ListN.{length, getD}
 use lib.Signed.{leZ}
 use Rattle.record_table.specs.Table.{from, unless, signed, Entry, zeros, field, months, devices, table, highestOf, entriesOf, yr, tp, pe, mt}
-use Rattle.record_table.specs.Number.{signedOf}
+use Rattle.number_bytes.specs.Number.{signedOf}
 use Rattle.record_table.specs.Slot.{slotOf}
 use Rattle.record_table.proofs.Slots.{Low}
 use Rattle.record_fields.specs.Entry.{inRange}
-use Rattle.record_judge.proofs.Keys.{within}
+use Rattle.record_judge.proofs.Keys.{both, within}
 use Rattle.book.specs.Book.{recordAt}
 use Rattle.book.specs.Valid.{Valid}
 use Rattle.book_slots.specs.Field.{seenAt, numberOf, seenOf, filledOf}
@@ -100,10 +100,6 @@ Mild below above (Tenths t) = (leZ (negℤ (pos below)) t ≡ true) × (leZ t (p
 mild : (b : Bool) (t : ℤ) (below above : ℕ) → (b ≡ true → (leZ (negℤ (pos below)) t ≡ true) × (leZ t (pos above) ≡ true)) → Mild below above (cond b (Tenths t) Unknown)
 mild true t below above f = f refl
 mild false t below above f = tt
-
-both : (a b : Bool) → (a && b) ≡ true → (a ≡ true) × (b ≡ true)
-both true b e = (refl, e)
-both false b e = let z : _≡_ {A = ℕ} 0 1 = cc in let f : ⊥ = omega arith in absurd f
 
 -- mark by mark: what is seen, and the number
 module _ (book : List ℕ) (v : Valid book) where

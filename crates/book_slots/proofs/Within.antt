@@ -7,10 +7,10 @@ use native.Mathlib.Nat.{add-zero, add-assoc, le-of-suc-le-suc, not-suc-le-zero}
 use native.Mathlib.Omega.{arith}
 use borrow.Author.Tests.{not-true, not-false}
 use lib.Dec.{leb, leb→le}
-use lib.ListN.{length, getD, take, drop, replicate, getD-replicate}
+use lib.ListN.{length, getD, take, drop, getD-replicate}
 use Rattle.laws.proofs.Table.{each, at}
-use Rattle.record_table.specs.Table.{Range, Entry, zeros, field, table, highestOf, entriesOf}
-use Rattle.record_table.specs.Number.{recordBytes, afterMark, numberAt}
+use Rattle.record_table.specs.Table.{Range, Entry, zeros, field, table, highestOf, entriesOf, recordBytes, afterMark}
+use Rattle.number_bytes.specs.Number.{numberAt}
 use Rattle.record_table.specs.Slot.{slots, slotOf}
 use Rattle.record_table.proofs.Slots.{Low, among, among-all, one-row}
 use Rattle.record_fields.specs.Entry.{inRange}
@@ -18,9 +18,9 @@ use Rattle.record_judge.specs.Record.{rowOf}
 use Rattle.record_judge.proofs.Taken.{taken}
 use Rattle.record_judge.proofs.Entries.{Ranged}
 use Rattle.record_judge.proofs.Keys.{there, fields}
-use Rattle.book.specs.Book.{recordAt, free}
+use Rattle.book.specs.Book.{recordAt, free, nothing}
 use Rattle.book.specs.Valid.{Valid}
-use Rattle.book.proofs.Filling.{slot-byte}
+use Rattle.book.proofs.Slot.{slot-byte}
 use Rattle.book.proofs.Letters.{free-empty, filled-held}
 use Rattle.book_slots.specs.Field.{bytesIn, placeOf, bytesOf, numberOf, filledOf}
 
@@ -34,7 +34,7 @@ number-slot book k at (suc n) h =
     let i = number-slot book k (at + 1) n (omega arith) ∙ ap (λ (p : ℕ). numberAt book p n) e in
     rw (b, i)
 
-none : (at n : ℕ) → at + n ≤ recordBytes → numberAt (replicate recordBytes 0) at n ≡ 0
+none : (at n : ℕ) → at + n ≤ recordBytes → numberAt nothing at n ≡ 0
 unfolding numberAt
 none at zero h = refl
 none at (suc n) h = rw (getD-replicate {A = ℕ} recordBytes at 0 0 (omega arith), none (at + 1) n (omega arith))
@@ -52,7 +52,7 @@ inside-record row h n l = leb→le _ _ (at (ends row) (length (entriesOf row)) (
 
 -- each field of a record that has none outside its range
 not-field : {m wide : ℕ} {range : Range} {X : Type 0} → zeros m ≡ field wide range → X
-not-field e = let z : _≡_ {A = ℕ} 0 1 = cc in let f : ⊥ = omega arith in absurd f
+not-field e = let z : _≡_ {A = ℕ} 0 1 = cc in absurd (omega arith)
 
 same-range : {w wide : ℕ} {g range : Range} → field w g ≡ field wide range → g ≡ range
 same-range e = cc
@@ -81,7 +81,7 @@ module _ (book : List ℕ) (v : Valid book) (row : ℕ) (h : row < length table)
   its-fields : filledOf book row bytes ≡ true → Ranged afterMark (entriesOf row) (recordAt book (slotOf row bytes))
   its-fields f =
       let e = filled-held book (slotOf row bytes) v below (not-true (free book (slotOf row bytes)) f) in
-      let t = taken (recordAt book (slotOf row bytes)) (slotOf row bytes) e in
+      let t = taken (recordAt book (slotOf row bytes)) (slotOf row bytes) (e .judged-so) in
       let same = one-row (rowOf (recordAt book (slotOf row bytes))) row (slotOf row bytes) (there (recordAt book (slotOf row bytes)) (slotOf row bytes) t) (among row h bytes low) in
       subst (λ (m : ℕ). Ranged afterMark (entriesOf m) (recordAt book (slotOf row bytes))) same (fields (recordAt book (slotOf row bytes)) (slotOf row bytes) t)
 

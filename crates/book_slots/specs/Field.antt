@@ -3,7 +3,8 @@
 use Prim.Native.Nat.{ℕ, _+_, _*_}
 use mathlib.Core.{Bool.Bool, Bool.cond, Bool.not, List.List, List.[], List._∷_}
 use lib.ListN.{take, drop}
-use Rattle.record_table.specs.{Table.Entry, Table.zeros, Table.field, Table.entriesOf, Number.recordBytes, Number.afterMark, Number.numberAt, Slot.slotOf}
+use Rattle.record_table.specs.{Table.Entry, Table.zeros, Table.field, Table.entriesOf, Table.recordBytes, Table.afterMark, Slot.slotOf}
+use Rattle.number_bytes.specs.Number.{numberAt}
 use Rattle.book.specs.Book.{free}
 use Rattle.book_slots.specs.declared.Seen.{Seen, the-variants.Nothing, the-variants.Value}
 

@@ -3,7 +3,8 @@
 -- Assumes nothing.
 use Prim.Native.Nat.{ℕ}
 use mathlib.Core.{Bool.cond, List.List, List.[], List._∷_}
-use Rattle.record_table.specs.{Table.yr, Table.tp, Table.pe, Table.mt, Number.signedOf}
+use Rattle.record_table.specs.{Table.yr, Table.tp, Table.pe, Table.mt}
+use Rattle.number_bytes.specs.Number.{signedOf}
 use Rattle.book_slots.specs.Field.{numberOf, seenOf, filledOf}
 use Rattle.book_slots.specs.declared.{Seen.Seen, Warmth.Warmth, Warmth.the-variants.Unknown, Warmth.the-variants.Tenths}
 

@@ -1,12 +1,12 @@
 // One field of one slot of a book, and what stands in the slots of YR, TP, PE and MT.
 use record_fields::Field;
-use record_judge::table;
+use record_judge::rows;
 ghost use mathlib.Core.Path.{_≡_};
 ghost use mathlib.Core.Bool.{not};
 ghost use mathlib.Core.List.{[], _∷_};
 ghost use Prim.Native.Nat.{_+_, _*_, _≤_, _<_};
-ghost use Rattle.record_table.specs.Table.{months, devices, yr, tp, pe};
-ghost use Rattle.record_table.specs.Number.{recordBytes, numberAt, signedOf};
+ghost use Rattle.record_table.specs.Table.{months, devices, yr, tp, pe, recordBytes};
+ghost use Rattle.number_bytes.specs.Number.{numberAt, signedOf};
 ghost use Rattle.record_table.specs.Slot.{slots, slotOf};
 ghost use Rattle.book.specs.Book.{free};
 ghost use Rattle.book.specs.Valid.{Valid};
@@ -29,14 +29,14 @@ pub fn first_year(book: &[u8]) -> Seen
     requires { ⌜ Valid (now book) ⌝ }
     ensures { λ r. ⌜ r ≡ firstYearOf (now (book .entry)) ⌝ }
 {
-    year_field(book, table::YR_FIRST_YEAR)
+    year_field(book, rows::YR_FIRST_YEAR)
 }
 
 pub fn first_month(book: &[u8]) -> Seen
     requires { ⌜ Valid (now book) ⌝ }
     ensures { λ r. ⌜ r ≡ firstMonthOf (now (book .entry)) ⌝ }
 {
-    year_field(book, table::YR_FIRST_MONTH)
+    year_field(book, rows::YR_FIRST_MONTH)
 }
 
 pub fn temperature(book: &[u8], month: usize) -> Warmth
@@ -54,21 +54,21 @@ pub fn project_methane(book: &[u8], month: usize) -> Seen
     requires { ⌜ (Valid (now book)) × (month ≤ months) ⌝ }
     ensures { λ r. ⌜ r ≡ projectMethaneOf (now (book .entry)) month ⌝ }
 {
-    project_field(book, month, table::PE_PROJECT_METHANE)
+    project_field(book, month, rows::PE_PROJECT_METHANE)
 }
 
 pub fn baseline_co2(book: &[u8], month: usize) -> Seen
     requires { ⌜ (Valid (now book)) × (month ≤ months) ⌝ }
     ensures { λ r. ⌜ r ≡ baselineCo2Of (now (book .entry)) month ⌝ }
 {
-    project_field(book, month, table::PE_BASELINE_CO2)
+    project_field(book, month, rows::PE_BASELINE_CO2)
 }
 
 pub fn project_co2(book: &[u8], month: usize) -> Seen
     requires { ⌜ (Valid (now book)) × (month ≤ months) ⌝ }
     ensures { λ r. ⌜ r ≡ projectCo2Of (now (book .entry)) month ⌝ }
 {
-    project_field(book, month, table::PE_PROJECT_CO2)
+    project_field(book, month, rows::PE_PROJECT_CO2)
 }
 
 pub fn destroyed(book: &[u8], month: usize, device: usize) -> Seen
@@ -78,7 +78,7 @@ pub fn destroyed(book: &[u8], month: usize, device: usize) -> Seen
     read(
         book,
         record_table::meter_slot(month, device),
-        table::MT_DESTROYED,
+        rows::MT_DESTROYED,
     )
 }
 
@@ -119,7 +119,7 @@ pub fn field(book: &[u8], slot: usize, entry: Field) -> u64
     requires { ⌜ (Valid (now book)) × (slot < slots) × (entry .0 + entry .1 ≤ recordBytes) × (entry .1 ≤ 8) ⌝ }
     ensures { λ r. ⌜ r ≡ numberAt (now (book .entry)) (slot * recordBytes + entry .0) (entry .1) ⌝ }
 {
-    record_table::number(book, slot * record_table::RECORD + entry.0, entry.1)
+    number_bytes::number(book, slot * record_table::RECORD + entry.0, entry.1)
 }
 
 // A temperature's slot as a signed number, filled or not: 0 where it is empty.
@@ -127,9 +127,9 @@ fn tenths(book: &[u8], slot: usize) -> i16
     requires { ⌜ (Valid (now book)) × (slot < slots) ⌝ }
     ensures { λ r. ⌜ r ≡ signedOf (numberAt (now (book .entry)) (slot * recordBytes + placeOf tp 2) (bytesOf tp 2)) ⌝ }
 {
-    record_table::signed(record_table::number(
+    number_bytes::signed(number_bytes::number(
         book,
-        slot * record_table::RECORD + table::TP_TEMPERATURE_AT,
-        table::TP_TEMPERATURE_BYTES,
+        slot * record_table::RECORD + rows::TP_TEMPERATURE_AT,
+        rows::TP_TEMPERATURE_BYTES,
     ))
 }

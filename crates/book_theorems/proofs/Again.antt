@@ -1,24 +1,27 @@
--- An unclean stop doubles nothing: once posted, a record finds its slot filled, and a slot that is filled stays filled. Assumes nothing.
+-- An unclean stop doubles nothing: once posted, a record finds its slot filled, and a slot that is filled stays filled, since no record empties one.
+-- Assumes nothing.
 use mathlib.Core.Path.{_≡_, refl, sym, ap, _∙_, subst}
-use mathlib.Core.Bool.{Bool, true, false, cond}
+use mathlib.Core.Bool.{Bool, true, false, cond, true≢false}
 use mathlib.Core.List.{List, [], _∷_, _++_, List·Memᴰ, List·Memᴰ·head, List·Memᴰ·tail, List·Memᴰ·cases-cons, List·Memᴰ·not-nil}
 use mathlib.Core.Logic.{⊎-elim}
 use Prim.Native.Nat.{ℕ, _<_}
-use native.Mathlib.Omega.{arith}
 use lib.Dec.{eqb}
 use lib.ListN.{length}
-use Rattle.record_table.specs.Number.{recordBytes}
+use Rattle.record_table.specs.Table.{recordBytes}
 use Rattle.record_table.specs.Slot.{slots}
-use Rattle.record_judge.specs.Record.{judged}
+use Rattle.refusals.specs.Refusal.{refusal, notSixteenBytes, alreadyFilled}
+use Rattle.refusals.specs.declared.Refusal.{Refusal}
+use Rattle.record_judge.specs.Record.{judged, storedOf}
 use Rattle.record_judge.specs.declared.Judged.{Judged}
-use Rattle.record_judge.specs.declared.Judged.the-variants.{Wrong, Fill}
+use Rattle.record_judge.specs.declared.Judged.the-variants.{Refused as RefusedRecord, Put, Empty}
 use Rattle.record_judge.proofs.Marks.{short}
-use Rattle.record_judge.proofs.Taken.{taken}
+use Rattle.record_judge.proofs.Taken.{taken, never-empties}
+use Rattle.record_judge.proofs.StoredBytes.{stored-long, stored-judged}
 use Rattle.record_judge.proofs.Keys.{slot-below}
-use Rattle.book.specs.Book.{free, filledWith, answerBy, bookBy, answerOf, bookAfter}
+use Rattle.book.specs.Book.{free, bookWith, answerBy, bookBy, answerOf, bookAfter}
 use Rattle.book.specs.Valid.{Valid}
 use Rattle.book.specs.declared.Posted.the-variants.{Taken, Refused}
-use Rattle.book.proofs.Filling.{slot-same, slot-other}
+use Rattle.book.proofs.Slot.{slot-same, slot-other}
 use Rattle.book.proofs.Free.{free-same}
 use Rattle.book.proofs.Kept.{kept, same-or-not}
 use Rattle.book.proofs.Letters.{held-filled}
@@ -27,69 +30,66 @@ use Rattle.book_theorems.proofs.Own.{taken-fills}
 
 -- a record that has nothing left to fill: refused on its own account, or its slot is filled
 pub data Spent (book r : List ℕ) : Type 0 where
-  wrong : (number place : ℕ) → judged r ≡ Wrong number place → Spent book r
-  filled : (k : ℕ) → judged r ≡ Fill k → free book k ≡ false → Spent book r
+  refused : (x : Refusal) → judged r ≡ RefusedRecord x → Spent book r
+  filled : (k : ℕ) → judged r ≡ Put k → free book k ≡ false → Spent book r
 
 pub record Turned (book r : List ℕ) : Type 0 where
-  pub number : ℕ
-  pub place : ℕ
-  pub refused : answerOf book r ≡ Refused number place
+  pub refusal : Refusal
+  pub refused : answerOf book r ≡ Refused refusal
   pub same : bookAfter book r ≡ book
 
 turned : {book r : List ℕ} → Spent book r → Turned book r
 unfolding answerOf answerBy bookAfter bookBy
-turned {book} {r} (wrong number place e) = record { number = number; place = place; refused = ap (answerBy book) e; same = ap (bookBy book r) e }
+turned {book} {r} (refused x e) = record { refusal = x; refused = ap (answerBy book) e; same = ap (bookBy book r) e }
 turned {book} {r} (filled k e f) =
     record {
-      number = 5;
-      place = 0;
-      refused = ap (answerBy book) e ∙ ap (λ (b : Bool). cond b Taken (Refused 5 0)) f;
-      same = ap (bookBy book r) e ∙ ap (λ (b : Bool). cond b (filledWith book k r) book) f;
+      refusal = refusal alreadyFilled 0;
+      refused = ap (answerBy book) e ∙ ap (λ (b : Bool). cond b Taken (Refused (refusal alreadyFilled 0))) f;
+      same = ap (bookBy book r) e ∙ ap (λ (b : Bool). cond b (bookWith book k (storedOf r)) book) f;
     }
-
-no : {X : Type 0} → true ≡ false → X
-no e = let z : _≡_ {A = ℕ} 0 1 = cc in let f : ⊥ = omega arith in absurd f
 
 -- a slot that is filled stays filled
 module _ (book s : List ℕ) (v : Valid book) where
-  stays-by : (k j : ℕ) → k < slots → free book k ≡ false → judged s ≡ Fill j → (b : Bool) → free book j ≡ b → free (cond b (filledWith book j s) book) k ≡ false
+  stays-by : (k j : ℕ) → k < slots → free book k ≡ false → judged s ≡ Put j → (b : Bool) → free book j ≡ b → free (cond b (bookWith book j (storedOf s)) book) k ≡ false
   stays-by k j h full e false f = full
   stays-by k j h full e true f =
       let t = taken s j e in
       ⊎-elim
-      (λ same. no (sym f ∙ ap (free book) (sym same) ∙ full))
-      (λ other. free-same (filledWith book j s) book k (slot-other book j s (v .size) (slot-below s j t) (t .long) k h other) ∙ full)
+      (λ same. absurd (true≢false (sym f ∙ ap (free book) (sym same) ∙ full)))
+      (λ other. free-same (bookWith book j (storedOf s)) book k (slot-other book j (storedOf s) (v .size) (slot-below s j t) (stored-long s (t .long)) k h other) ∙ full)
       (same-or-not k j (eqb k j) refl)
 
   stays-as : (k : ℕ) → k < slots → free book k ≡ false → (found : Judged) → judged s ≡ found → free (bookBy book s found) k ≡ false
   unfolding bookBy
-  stays-as k h full (Wrong number place) e = full
-  stays-as k h full (Fill j) e = stays-by k j h full e (free book j) refl
+  stays-as k h full (RefusedRecord x) e = full
+  stays-as k h full (Put j) e = stays-by k j h full e (free book j) refl
+  stays-as k h full (Empty j) e = absurd (never-empties s j e)
 
   stays : (k : ℕ) → k < slots → free book k ≡ false → free (bookAfter book s) k ≡ false
   unfolding bookAfter
   stays k h full = stays-as k h full (judged s) refl
 
   -- a record that was posted is spent, whether it was taken or not
-  fills-by : (k : ℕ) → judged s ≡ Fill k → (b : Bool) → free book k ≡ b → free (cond b (filledWith book k s) book) k ≡ false
+  fills-by : (k : ℕ) → judged s ≡ Put k → (b : Bool) → free book k ≡ b → free (cond b (bookWith book k (storedOf s)) book) k ≡ false
   fills-by k e false f = f
   fills-by k e true f =
       let t = taken s k e in
-      held-filled (filledWith book k s) k k (ap judged (slot-same book k s (v .size) (slot-below s k t) (t .long)) ∙ e)
+      held-filled (bookWith book k (storedOf s)) k k (ap judged (slot-same book k (storedOf s) (v .size) (slot-below s k t) (stored-long s (t .long))) ∙ stored-judged s k e)
 
-  fills : (k : ℕ) → judged s ≡ Fill k → free (bookAfter book s) k ≡ false
+  fills : (k : ℕ) → judged s ≡ Put k → free (bookAfter book s) k ≡ false
   unfolding bookAfter bookBy
   fills k e = ap (λ (found : Judged). free (bookBy book s found) k) e ∙ fills-by k e (free book k) refl
 
   once-by : (found : Judged) → judged s ≡ found → Spent (bookAfter book s) s
-  once-by (Wrong number place) e = wrong number place e
-  once-by (Fill k) e = filled k e (fills k e)
+  once-by (RefusedRecord x) e = refused x e
+  once-by (Put k) e = filled k e (fills k e)
+  once-by (Empty k) e = absurd (never-empties s k e)
 
   once : Spent (bookAfter book s) s
   once = once-by (judged s) refl
 
   still : {r : List ℕ} → Spent book r → Spent (bookAfter book s) r
-  still (wrong number place e) = wrong number place e
+  still (refused x e) = refused x e
   still {r} (filled k e f) = filled k e (stays k (slot-below r k (taken r k e)) f)
 
 still-each : (book : List ℕ) → Valid book → (ss : List (List ℕ)) {r : List ℕ} → Spent book r → Spent (bookEach book ss) r
@@ -117,13 +117,12 @@ stays-each book v [] k h full = full
 stays-each book v (s ∷ ss) k h full = stays-each (bookAfter book s) (kept book s v) ss k h (stays book s v k h full)
 
 pub taken-again :
-    (book : List ℕ) → Valid book → (r : List ℕ) → answerOf book r ≡ Taken → (ss : List (List ℕ)) → answerOf (bookEach (bookAfter book r) ss) r ≡ Refused 5 0
+    (book : List ℕ) → Valid book → (r : List ℕ) → answerOf book r ≡ Taken → (ss : List (List ℕ)) → answerOf (bookEach (bookAfter book r) ss) r ≡ Refused (refusal alreadyFilled 0)
 unfolding answerOf answerBy
 taken-again book v r taken ss =
-    let own = taken-fills book r (v .size) taken .fills in
-    let slot = taken-fills book r (v .size) taken .slot in
-    let full = stays-each (bookAfter book r) (kept book r v) ss slot (own .below) (fills book r v slot (own .judged-so)) in
-    ap (answerBy (bookEach (bookAfter book r) ss)) (own .judged-so) ∙ ap (λ (b : Bool). cond b Taken (Refused 5 0)) full
+    let own = taken-fills book r (v .size) taken in
+    let full = stays-each (bookAfter book r) (kept book r v) ss (own .slot) (own .there .below) (fills book r v (own .slot) (own .judged-so)) in
+    ap (answerBy (bookEach (bookAfter book r) ss)) (own .judged-so) ∙ ap (λ (b : Bool). cond b Taken (Refused (refusal alreadyFilled 0))) full
 
 -- so any of them, in any order, any number of times, leave the same book
 again : (book : List ℕ) (ss : List (List ℕ)) → ((s : List ℕ) → List·Memᴰ s ss → bookAfter book s ≡ book) → bookEach book ss ≡ book
@@ -147,6 +146,6 @@ resumed book v ps qs =
     ∙ sym (each-append book ps qs)
 
 -- a record cut short is refused 1, and changes nothing
-pub torn : (book r : List ℕ) → (length r ≡ recordBytes → ⊥) → (answerOf book r ≡ Refused 1 0) × (bookAfter book r ≡ book)
+pub torn : (book r : List ℕ) → (length r ≡ recordBytes → ⊥) → (answerOf book r ≡ Refused (refusal notSixteenBytes 0)) × (bookAfter book r ≡ book)
 unfolding answerOf answerBy bookAfter bookBy
 torn book r cut = (ap (answerBy book) (short r cut), ap (bookBy book r) (short r cut))

@@ -12,7 +12,7 @@ use Rattle.book_theorems.proofs.Own.{refused-same}
 -- a record that is taken is appended to the log, and one that is refused is not
 abbrev pub appended : Posted → List ℕ → List (List ℕ) → List (List ℕ)
 appended Taken r log = r ∷ log
-appended (Refused number place) r log = log
+appended (Refused x) r log = log
 
 unfoldable pub logOf : List ℕ → List (List ℕ) → List (List ℕ)
 logOf book [] = []
@@ -31,8 +31,8 @@ module _ (book r : List ℕ) (rs : List (List ℕ)) (later : Replayed (bookAfter
     ap (λ (a : Posted). onward a (answerAll (bookAfter book r) (logOf (bookAfter book r) rs)) a) taken ∙ later .all-taken,
     ap (λ (a : Posted). onward a (bookAll (bookAfter book r) (logOf (bookAfter book r) rs)) (bookAfter book r)) taken ∙ later .same-book,
   )
-  replayed-by (Refused number place) refused =
-      let same = refused-same book r number place refused in (
+  replayed-by (Refused x) refused =
+      let same = refused-same book r x refused in (
         ap (λ (b : List ℕ). answerAll b (logOf (bookAfter book r) rs)) (sym same) ∙ later .all-taken,
         ap (λ (b : List ℕ). bookAll b (logOf (bookAfter book r) rs)) (sym same) ∙ later .same-book,
       )

@@ -1,4 +1,4 @@
--- A book is what postings make of the empty one: that, and that each slot is empty or holds a record taken for it, are the same.
+-- A book is what postings make of the empty one: that, and that each slot is empty or holds what posting puts there, are the same.
 -- Assumes nothing.
 use mathlib.Core.Path.{_≡_, refl, sym, ap, _∙_, subst}
 use mathlib.Core.Bool.{Bool, true, false, cond}
@@ -6,16 +6,15 @@ use mathlib.Core.List.{List}
 use mathlib.Core.Logic.{⊎-elim}
 use Prim.Native.Nat.{ℕ, zero, suc, _+_, _*_, _/_, _%_, _≤_, _<_}
 use native.Mathlib.Omega.{arith}
-use lib.ListN.{length, getD, replicate}
+use lib.ListN.{length, getD}
 use lib.Seq.{ext-getD}
-use Rattle.record_table.specs.Number.{recordBytes}
+use Rattle.record_table.specs.Table.{recordBytes}
 use Rattle.record_table.specs.Slot.{slots}
 use Rattle.record_table.proofs.Slots.{lt-or-ge}
-use Rattle.record_judge.specs.Record.{judged}
-use Rattle.record_judge.specs.declared.Judged.the-variants.{Fill}
-use Rattle.book.specs.Book.{bookBytes, recordAt, free, filledWith, bookBy, bookAfter, emptyBook}
-use Rattle.book.specs.Valid.{Made, empty, posted, Valid}
-use Rattle.book.proofs.Filling.{filled-length, slot-same, slot-other, slot-length, slot-byte}
+use Rattle.record_judge.specs.Record.{storedOf}
+use Rattle.book.specs.Book.{bookBytes, recordAt, free, nothing, bookWith, bookBy, bookAfter, emptyBook}
+use Rattle.book.specs.Valid.{Made, empty, posted, Stands, Valid}
+use Rattle.book.proofs.Slot.{with-length, slot-same, slot-other, slot-length, slot-byte}
 use Rattle.book.proofs.Free.{empty-free}
 use Rattle.book.proofs.Kept.{kept, empty-slot, empty-valid}
 use Rattle.book.proofs.Letters.{free-empty, filled-held}
@@ -41,7 +40,7 @@ record Upto (book : List ℕ) (k : ℕ) : Type 0 where
   made : Made part
   size : length part ≡ bookBytes
   below : (j : ℕ) → j < k → j < slots → recordAt part j ≡ recordAt book j
-  above : (j : ℕ) → k ≤ j → j < slots → recordAt part j ≡ replicate recordBytes 0
+  above : (j : ℕ) → k ≤ j → j < slots → recordAt part j ≡ nothing
 
 none : (book : List ℕ) → Upto book 0
 none book =
@@ -68,24 +67,25 @@ module _ (book : List ℕ) (v : Valid book) (k : ℕ) (h : k < slots) (u : Upto 
         above = λ j l hj. u .above j (omega arith) hj;
       }
 
-  after : judged (recordAt book k) ≡ Fill k → bookAfter (u .part) (recordAt book k) ≡ filledWith (u .part) k (recordAt book k)
+  after : Stands k (recordAt book k) → bookAfter (u .part) (recordAt book k) ≡ bookWith (u .part) k (recordAt book k)
   unfolding bookAfter bookBy
-  after e =
-      ap (bookBy (u .part) (recordAt book k)) e
-      ∙ ap (λ (b : Bool). cond b (filledWith (u .part) k (recordAt book k)) (u .part)) (empty-free (u .part) k (u .above k (omega arith) h))
+  after s =
+      ap (bookBy (u .part) (recordAt book k)) (s .judged-so)
+      ∙ ap (λ (b : Bool). cond b (bookWith (u .part) k (storedOf (recordAt book k))) (u .part)) (empty-free (u .part) k (u .above k (omega arith) h))
+      ∙ ap (bookWith (u .part) k) (s .stored-so)
 
   put : free book k ≡ false → Upto book (k + 1)
   put f =
       let r = recordAt book k in
-      let e = filled-held book k v h f in
+      let s = filled-held book k v h f in
       let long = slot-length book k (v .size) h in
       record {
-        part = filledWith (u .part) k r;
-        made = subst Made (after e) (posted (u .made) r);
-        size = filled-length (u .part) k r (u .size) h long;
+        part = bookWith (u .part) k r;
+        made = subst Made (after s) (posted (u .made) r);
+        size = with-length (u .part) k r (u .size) h long;
         below = λ j l hj. ⊎-elim
             (λ lt. slot-other (u .part) k r (u .size) h long j hj (λ q. omega arith) ∙ u .below j lt hj)
-            (λ ge. let q : j ≡ k = omega arith in ap (recordAt (filledWith (u .part) k r)) q ∙ slot-same (u .part) k r (u .size) h long ∙ ap (recordAt book) (sym q))
+            (λ ge. let q : j ≡ k = omega arith in ap (recordAt (bookWith (u .part) k r)) q ∙ slot-same (u .part) k r (u .size) h long ∙ ap (recordAt book) (sym q))
             (lt-or-ge j k);
         above = λ j l hj. slot-other (u .part) k r (u .size) h long j hj (λ q. omega arith) ∙ u .above j (omega arith) hj;
       }

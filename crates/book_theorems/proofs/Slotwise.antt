@@ -6,17 +6,19 @@ use mathlib.Core.List.{List, [], _∷_}
 use Prim.Native.Nat.{ℕ, _+_, _*_, _≤_, _<_}
 use borrow.Author.Tests.{eqb-true, eqb-false}
 use lib.Dec.{eqb}
-use lib.ListN.{getD}
-use Rattle.record_table.specs.Number.{recordBytes, numberAt}
+use lib.ListN.{length, getD, length-replicate}
+use Rattle.record_table.specs.Table.{recordBytes}
+use Rattle.number_bytes.specs.Number.{numberAt}
 use Rattle.record_table.specs.Slot.{slots}
-use Rattle.record_judge.specs.Record.{judged}
+use Rattle.record_judge.specs.Record.{judged, storedOf}
 use Rattle.record_judge.specs.declared.Judged.{Judged}
-use Rattle.record_judge.specs.declared.Judged.the-variants.{Wrong, Fill}
+use Rattle.record_judge.specs.declared.Judged.the-variants.{Refused as RefusedRecord, Put, Empty}
 use Rattle.record_judge.proofs.Taken.{taken}
-use Rattle.record_judge.proofs.Keys.{slot-below}
-use Rattle.book.specs.Book.{recordAt, free, filledWith, bookBy, bookAfter}
+use Rattle.record_judge.proofs.StoredBytes.{stored-long}
+use Rattle.record_judge.proofs.Keys.{slot-below, emptied-below}
+use Rattle.book.specs.Book.{recordAt, free, nothing, bookWith, bookBy, bookAfter}
 use Rattle.book.specs.Valid.{Valid}
-use Rattle.book.proofs.Filling.{slot-same, slot-other}
+use Rattle.book.proofs.Slot.{slot-same, slot-other}
 use Rattle.book.proofs.Free.{first-byte}
 use Rattle.book.proofs.Kept.{kept}
 use Rattle.book_slots.specs.Field.{seenAt}
@@ -28,10 +30,12 @@ use Rattle.book_theorems.specs.Each.{bookEach}
 abbrev pub bare : List ℕ → Bool
 bare held = eqb (getD held 0 0) 0
 
--- what stands in slot k after a record: the record, where it fills that slot and nothing stood there; and after some records
+-- what stands in slot k after a record: its bytes, where it puts them there and nothing stood there, or nothing, where it empties the slot; and after some
+-- records
 unfoldable pub heldBy : ℕ → List ℕ → List ℕ → Judged → List ℕ
-heldBy k held r (Wrong number place) = held
-heldBy k held r (Fill j) = cond (eqb j k && bare held) r held
+heldBy k held r (RefusedRecord x) = held
+heldBy k held r (Put j) = cond (eqb j k && bare held) (storedOf r) held
+heldBy k held r (Empty j) = cond (eqb j k) nothing held
 
 unfoldable pub heldAfter : ℕ → List ℕ → List (List ℕ) → List ℕ
 heldAfter k held [] = held
@@ -41,28 +45,37 @@ free-bare : (book : List ℕ) (k : ℕ) → free book k ≡ bare (recordAt book 
 unfolding free
 free-bare book k = ap (λ (x : ℕ). eqb x 0) (sym (first-byte book k))
 
+-- bytes put into slot j, where a test of it allows that, stand in slot k if it is that one
+module _ (book bytes : List ℕ) (v : Valid book) (long : length bytes ≡ recordBytes) (k : ℕ) (h : k < slots) where
+  own : (b : Bool) → recordAt (cond b (bookWith book k bytes) book) k ≡ cond b bytes (recordAt book k)
+  own true = slot-same book k bytes (v .size) h long
+  own false = refl
+
+  other : (j : ℕ) → j < slots → (k ≡ j → ⊥) → (b : Bool) → recordAt (cond b (bookWith book j bytes) book) k ≡ recordAt book k
+  other j l ne true = slot-other book j bytes (v .size) l long k h ne
+  other j l ne false = refl
+
+  into :
+      (test : ℕ → Bool) (j : ℕ) → j < slots → (same : Bool) → eqb j k ≡ same →
+      recordAt (cond (test j) (bookWith book j bytes) book) k ≡ cond (same && test k) bytes (recordAt book k)
+  into test j l false n = other j l (λ q. eqb-false j k n (sym q)) (test j)
+  into test j l true n = ap (λ (i : ℕ). recordAt (cond (test i) (bookWith book i bytes) book) k) (eqb-true j k n) ∙ own (test k)
+
+and-true : (b : Bool) → (b && true) ≡ b
+and-true true = refl
+and-true false = refl
+
 module _ (book r : List ℕ) (v : Valid book) (k : ℕ) (h : k < slots) where
-  own : judged r ≡ Fill k → (b : Bool) → recordAt (cond b (filledWith book k r) book) k ≡ cond b r (recordAt book k)
-  own e true = let t = taken r k e in slot-same book k r (v .size) h (t .long)
-  own e false = refl
-
-  other : (j : ℕ) → judged r ≡ Fill j → (k ≡ j → ⊥) → (b : Bool) → recordAt (cond b (filledWith book j r) book) k ≡ recordAt book k
-  other j e ne true = let t = taken r j e in slot-other book j r (v .size) (slot-below r j t) (t .long) k h ne
-  other j e ne false = refl
-
-  fill :
-      (j : ℕ) → judged r ≡ Fill j → (same : Bool) → eqb j k ≡ same →
-      recordAt (cond (free book j) (filledWith book j r) book) k ≡ cond (same && bare (recordAt book k)) r (recordAt book k)
-  fill j e false n = other j e (λ q. eqb-false j k n (sym q)) (free book j)
-  fill j e true n =
-      let q = eqb-true j k n in
-      ap (λ (i : ℕ). recordAt (cond (free book i) (filledWith book i r) book) k) q
-      ∙ own (e ∙ ap Fill q) (free book k) ∙ ap (λ (b : Bool). cond b r (recordAt book k)) (free-bare book k)
-
   by : (found : Judged) → judged r ≡ found → recordAt (bookBy book r found) k ≡ heldBy k (recordAt book k) r found
   unfolding bookBy heldBy
-  by (Wrong number place) e = refl
-  by (Fill j) e = fill j e (eqb j k) refl
+  by (RefusedRecord x) e = refl
+  by (Put j) e =
+      let t = taken r j e in
+      into book (storedOf r) v (stored-long r (t .long)) k h (free book) j (slot-below r j t) (eqb j k) refl
+      ∙ ap (λ (b : Bool). cond (eqb j k && b) (storedOf r) (recordAt book k)) (free-bare book k)
+  by (Empty j) e =
+      into book nothing v (length-replicate {A = ℕ} recordBytes 0) k h (λ i. true) j (emptied-below r j e) (eqb j k) refl
+      ∙ ap (λ (b : Bool). cond b nothing (recordAt book k)) (and-true (eqb j k))
 
   one : recordAt (bookAfter book r) k ≡ heldBy k (recordAt book k) r (judged r)
   unfolding bookAfter

@@ -1,3 +1,4 @@
 pub mod Table
 pub mod Counting
 pub mod Determined
+pub mod Picking

@@ -2,7 +2,7 @@
 use Prim.Native.Nat.{ℕ}
 use mathlib.Core.List.{List}
 use lib.{Ieee.Float, Ieee.binary32, Ieee.ofBits}
-use Rattle.record_table.specs.Number.{numberAt}
+use Rattle.number_bytes.specs.Number.{numberAt}
 
 abbrev pub floatBytes : ℕ
 floatBytes = 4

@@ -12,7 +12,7 @@ pub fn float_at(bytes: &[u8], at: usize) -> f32
     requires { ⌜ at + floatBytes ≤ length (now bytes) ⌝ }
     ensures { λ r. ⌜ r ≡ floatAt (now (bytes .entry)) at ⌝ }
 {
-    of_bits(record_table::number(bytes, at, FLOAT) as u32)
+    of_bits(number_bytes::number(bytes, at, FLOAT) as u32)
 }
 
 // All bits of a pattern but its sign.

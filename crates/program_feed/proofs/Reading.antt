@@ -5,19 +5,21 @@ use Prim.Native.Nat.{ℕ, _+_, _*_, _-_, _/_, _%_, _≤_, _<_}
 use native.Mathlib.Omega.{arith}
 use lib.ListN.{length, take, drop, length-append}
 use lib.Seq.{length-take-le, take-add}
-use Rattle.record_table.specs.Number.{recordBytes}
+use Rattle.refusals.specs.declared.Refusal.{Refusal}
+use Rattle.record_table.specs.Table.{recordBytes}
+use Rattle.book.proofs.Kept.{kept-all}
 use Rattle.book.specs.Run.{recordsFrom, recordsOf, answerAll, bookAll}
 use Rattle.book.specs.Valid.{Valid}
 use Rattle.book.specs.declared.Posted.{Posted}
 use Rattle.book.specs.declared.Posted.the-variants.{Taken, Refused}
-use Rattle.program_feed.specs.Blocks.{wholeBytes, wholeRecords, carried, blockBy, fedBy}
+use Rattle.program_feed.specs.Blocks.{wholeBytes, wholeRecords, postedOf, carried, blockBy, fedBy}
 use Rattle.program_feed.specs.Input.{bookOf, endingBy, endingOf, Comes, unread, read}
 use Rattle.program_feed.specs.declared.Fed.{Fed}
 use Rattle.program_feed.specs.declared.Fed.the-variants.{Held, Refused as FedRefused}
 use Rattle.program_feed.specs.declared.Ending.{Ending}
 use Rattle.program_feed.specs.declared.Ending.the-variants.{Refused as EndingRefused, Failed}
 use Rattle.program_feed.proofs.Carrying.{held}
-use Rattle.program_feed.proofs.Posting.{kept-all, after, stays, many, parts}
+use Rattle.program_feed.proofs.Posting.{after, stays, many, parts}
 use Rattle.program_feed.proofs.Slots.{freeSlots, fills-all}
 
 pub record Reading (start book block : List ℕ) (cut : ℕ) : Type 0 where
@@ -49,11 +51,11 @@ left book cut = recordBytes * freeSlots book + (recordBytes - cut)
 -- what a block comes to tells what posting it answered
 holds : (p : Posted) (filled n : ℕ) → fedBy p filled ≡ Held n → (p ≡ Taken) × (n ≡ filled - wholeBytes filled)
 holds Taken filled n e = (refl, cc)
-holds (Refused number place) filled n e = let z : _≡_ {A = ℕ} 0 1 = cc in let f : ⊥ = omega arith in absurd f
+holds (Refused x) filled n e = let z : _≡_ {A = ℕ} 0 1 = cc in absurd (omega arith)
 
-stops : (p : Posted) (filled number place : ℕ) → fedBy p filled ≡ FedRefused number place → p ≡ Refused number place
-stops Taken filled number place e = let z : _≡_ {A = ℕ} 0 1 = cc in let f : ⊥ = omega arith in absurd f
-stops (Refused n q) filled number place e = cc
+stops : (p : Posted) (filled : ℕ) (x : Refusal) → fedBy p filled ≡ FedRefused x → p ≡ Refused x
+stops Taken filled x e = let z : _≡_ {A = ℕ} 0 1 = cc in absurd (omega arith)
+stops (Refused y) filled x e = cc
 
 -- more bytes posted after those that are
 module _ {start book block : List ℕ} {cut : ℕ} (w : Reading start book block cut) (more : List ℕ) where
@@ -106,7 +108,7 @@ module _ {start book block : List ℕ} {cut : ℕ} (w : Reading start book block
 
     module _ {book' : List ℕ} (b : book' ≡ bookAll book (wholeRecords now (cut + count))) where
       pub next :
-          {block' : List ℕ} → answerAll book (wholeRecords now (cut + count)) ≡ Taken → block' ≡ carried now (wholeBytes (cut + count)) (cut + count) →
+          {block' : List ℕ} → postedOf book now (cut + count) ≡ Taken → block' ≡ carried now (wholeBytes (cut + count)) (cut + count) →
           Reading start book' block' (cut + count - wholeBytes (cut + count))
       unfolding wholeRecords records rest
       next {block'} t c =
@@ -121,14 +123,14 @@ module _ {start book block : List ℕ} {cut : ℕ} (w : Reading start book block
             short = omega arith;
           }
 
-      pub refused : {number place : ℕ} → answerAll book (wholeRecords now (cut + count)) ≡ Refused number place → Comes start (EndingRefused number place) book'
+      pub refused : {x : Refusal} → postedOf book now (cut + count) ≡ Refused x → Comes start (EndingRefused x) book'
       unfolding wholeRecords records endingOf bookOf
-      refused {number} {place} t =
+      refused {x} t =
           let both = ap recordsOf longer-is ∙ parts (w .posted ++ records) rest records-whole in
-          let s = stays start (recordsOf (w .posted ++ records)) (recordsOf rest) number place (answers w records ∙ t) in
+          let s = stays start (recordsOf (w .posted ++ records)) (recordsOf rest) x (answers w records ∙ t) in
           read longer (sym (ap endingBy (ap (answerAll start) both ∙ s .0))) (b ∙ sym (ap (bookAll start) both ∙ s .1 ∙ makes w records))
 
-      pub fewer : 0 < count → answerAll book (wholeRecords now (cut + count)) ≡ Taken → left book' (cut + count - wholeBytes (cut + count)) < left book cut
+      pub fewer : 0 < count → postedOf book now (cut + count) ≡ Taken → left book' (cut + count - wholeBytes (cut + count)) < left book cut
       unfolding wholeRecords left recordsOf
       fewer some t =
           let l = length-take-le (wholeBytes (cut + count)) now (omega arith) in
@@ -137,14 +139,14 @@ module _ {start book block : List ℕ} {cut : ℕ} (w : Reading start book block
           omega (arith, w .short, l, n, f, ap freeSlots b)
 
     -- what posting the block says
-    module _ {book' block' : List ℕ} {fed : Fed} (f : fed ≡ fedBy (answerAll book (wholeRecords now (cut + count))) (cut + count))
+    module _ {book' block' : List ℕ} {fed : Fed} (f : fed ≡ fedBy (postedOf book now (cut + count)) (cut + count))
         (b : book' ≡ bookAll book (wholeRecords now (cut + count)))
-        (c : block' ≡ blockBy (answerAll book (wholeRecords now (cut + count))) now (cut + count)) where
+        (c : block' ≡ blockBy (postedOf book now (cut + count)) now (cut + count)) where
       pub onwards : {n : ℕ} → 0 < count → fed ≡ Held n → Reading start book' block' n × (left book' n < left book cut)
       onwards {n} some e =
-          let h = holds (answerAll book (wholeRecords now (cut + count))) (cut + count) n (sym f ∙ e) in
+          let h = holds (postedOf book now (cut + count)) (cut + count) n (sym f ∙ e) in
           rw (h .1)
           (next b (h .0) (c ∙ ap (λ (p : Posted). blockBy p now (cut + count)) (h .0)), fewer b some (h .0))
 
-      pub stopped : {number place : ℕ} → fed ≡ FedRefused number place → Comes start (EndingRefused number place) book'
-      stopped {number} {place} e = refused b (stops (answerAll book (wholeRecords now (cut + count))) (cut + count) number place (sym f ∙ e))
+      pub stopped : {x : Refusal} → fed ≡ FedRefused x → Comes start (EndingRefused x) book'
+      stopped {x} e = refused b (stops (postedOf book now (cut + count)) (cut + count) x (sym f ∙ e))

@@ -1,4 +1,4 @@
--- A record taken fills a free slot, so that a book takes no more records than it has free slots. Assumes nothing.
+-- A record taken fills a free slot, since none empties one, so that a book takes no more records than it has free slots. Assumes nothing.
 use mathlib.Core.Path.{_≡_, refl, sym, ap, _∙_}
 use mathlib.Core.Bool.{Bool, true, false, cond}
 use mathlib.Core.List.{List, [], _∷_}
@@ -7,21 +7,22 @@ use native.Mathlib.Decide.{decLt}
 use native.Mathlib.Omega.{arith}
 use lib.ListN.{length}
 use Rattle.record_table.specs.Slot.{slots}
-use Rattle.record_judge.specs.Record.{judged}
+use Rattle.record_judge.specs.Record.{judged, storedOf}
 use Rattle.record_judge.specs.declared.Judged.{Judged}
-use Rattle.record_judge.specs.declared.Judged.the-variants.{Wrong, Fill}
+use Rattle.record_judge.specs.declared.Judged.the-variants.{Refused as RefusedRecord, Put, Empty}
 use Rattle.record_judge.proofs.Keys.{slot-below}
-use Rattle.record_judge.proofs.Taken.{taken}
-use Rattle.book.specs.Book.{free, filledWith, answerBy, bookBy, answerOf, bookAfter}
+use Rattle.record_judge.proofs.Taken.{taken, never-empties}
+use Rattle.record_judge.proofs.StoredBytes.{stored-long, stored-judged}
+use Rattle.book.specs.Book.{free, bookWith, answerBy, bookBy, answerOf, bookAfter}
 use Rattle.book.specs.Run.{onward, answerAll, bookAll}
 use Rattle.book.specs.Valid.{Valid}
 use Rattle.book.specs.declared.Posted.{Posted}
 use Rattle.book.specs.declared.Posted.the-variants.{Taken, Refused}
-use Rattle.book.proofs.Filling.{slot-same, slot-other}
+use Rattle.book.proofs.Slot.{slot-same, slot-other}
 use Rattle.book.proofs.Free.{free-same}
 use Rattle.book.proofs.Kept.{kept}
 use Rattle.book.proofs.Letters.{held-filled}
-use Rattle.program_feed.proofs.Posting.{other}
+use Rattle.book.proofs.Taking.{not-taken, was-free}
 
 -- at how many places below n a test passes
 unfoldable pub count : (ℕ → Bool) → ℕ → ℕ
@@ -53,22 +54,18 @@ module _ (p q : ℕ → Bool) (k : ℕ) (was : p k ≡ true) (is : q k ≡ false
 unfoldable pub freeSlots : List ℕ → ℕ
 freeSlots book = count (free book) slots
 
-was-free : (b : Bool) → cond b Taken (Refused 5 0) ≡ Taken → b ≡ true
-was-free true e = refl
-was-free false e = other e
-
 by : (book r : List ℕ) (found : Judged) → judged r ≡ found → Valid book → answerBy book found ≡ Taken → freeSlots book ≡ freeSlots (bookBy book r found) + 1
 unfolding answerBy bookBy freeSlots
-by book r (Wrong number place) e v t = other t
-by book r (Fill k) e v t =
-    let record-taken = taken r k e in
-    let below = slot-below r k record-taken in
-    let long = record-taken .long in
-    let f = was-free (free book k) t in
+by book r (RefusedRecord x) e v t = not-taken t
+by book r (Empty k) e v t = absurd (never-empties r k e)
+by book r (Put k) e v t =
+    let below = slot-below r k (taken r k e) in
+    let long = stored-long r (taken r k e .long) in
+    let f = was-free book k t in
     rw f
-    (one-less (free book) (free (filledWith book k r)) k f
-    (held-filled (filledWith book k r) k k (ap judged (slot-same book k r (v .size) below long) ∙ e)) slots below
-    (λ j h ne. sym (free-same (filledWith book k r) book j (slot-other book k r (v .size) below long j h ne))))
+    (one-less (free book) (free (bookWith book k (storedOf r))) k f
+    (held-filled (bookWith book k (storedOf r)) k k (ap judged (slot-same book k (storedOf r) (v .size) below long) ∙ stored-judged r k e)) slots below
+    (λ j h ne. sym (free-same (bookWith book k (storedOf r)) book j (slot-other book k (storedOf r) (v .size) below long j h ne))))
 
 fills : (book r : List ℕ) → Valid book → answerOf book r ≡ Taken → freeSlots book ≡ freeSlots (bookAfter book r) + 1
 unfolding answerOf bookAfter
@@ -85,4 +82,4 @@ fills-all book (r ∷ rs) v t = go (answerOf book r) refl (fills-all (bookAfter 
         onward p (answerAll (bookAfter book r) rs) p ≡ Taken →
         freeSlots book ≡ freeSlots (onward p (bookAll (bookAfter book r) rs) (bookAfter book r)) + suc (length rs)
     go Taken e later u = omega (arith, fills book r v e, later u)
-    go (Refused number place) e later u = other u
+    go (Refused x) e later u = not-taken u

@@ -3,8 +3,8 @@
 use Prim.Native.Nat.{ℕ, _*_, _-_, _/_}
 use mathlib.Core.List.{List, _++_}
 use lib.ListN.{take, drop}
-use Rattle.record_table.specs.Number.{recordBytes}
-use Rattle.book.specs.{Run.recordsOf, declared.Posted.Posted, declared.Posted.the-variants.Taken, declared.Posted.the-variants.Refused as RefusedRecord}
+use Rattle.record_table.specs.Table.{recordBytes}
+use Rattle.book.specs.{Run.recordsOf, Run.answerAll, declared.Posted.Posted, declared.Posted.the-variants.Taken, declared.Posted.the-variants.Refused as RefusedRecord}
 use Rattle.program_feed.specs.declared.Fed.{Fed, the-variants.Held, the-variants.Refused}
 
 -- how many of n bytes belong to whole records; and the whole records among a block's first n bytes
@@ -14,6 +14,10 @@ wholeBytes n = n / recordBytes * recordBytes
 unfoldable pub wholeRecords : List ℕ → ℕ → List (List ℕ)
 wholeRecords block filled = recordsOf (take (wholeBytes filled) block)
 
+-- what posting them to a book answers
+abbrev pub postedOf : List ℕ → List ℕ → ℕ → Posted
+postedOf book block filled = answerAll book (wholeRecords block filled)
+
 -- a block whose bytes from one place to another stand at its start too
 unfoldable pub carried : List ℕ → ℕ → ℕ → List ℕ
 carried block from to = take (to - from) (drop from block) ++ drop (to - from) block
@@ -21,8 +25,8 @@ carried block from to = take (to - from) (drop from block) ++ drop (to - from) b
 -- where the whole records are taken, the bytes of a cut one are carried and held; a refusal leaves the block as it is
 abbrev pub blockBy : Posted → List ℕ → ℕ → List ℕ
 blockBy Taken block filled = carried block (wholeBytes filled) filled
-blockBy (RefusedRecord number place) block filled = block
+blockBy (RefusedRecord refusal) block filled = block
 
 abbrev pub fedBy : Posted → ℕ → Fed
 fedBy Taken filled = Held (filled - wholeBytes filled)
-fedBy (RefusedRecord number place) filled = Refused number place
+fedBy (RefusedRecord refusal) filled = Refused refusal

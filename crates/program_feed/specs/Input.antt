@@ -11,7 +11,7 @@ bookOf book input = bookAll book (recordsOf input)
 
 abbrev pub endingBy : Posted → Ending
 endingBy Taken = Ended
-endingBy (RefusedRecord number place) = Refused number place
+endingBy (RefusedRecord refusal) = Refused refusal
 
 unfoldable pub endingOf : List ℕ → List ℕ → Ending
 endingOf book input = endingBy (answerAll book (recordsOf input))

@@ -2,26 +2,27 @@
 ghost use mathlib.Core.Path.{_≡_};
 ghost use Prim.Native.Nat.{_-_, _≤_};
 ghost use lib.ListN.{length};
-ghost use Rattle.record_table.specs.Number.{recordBytes};
+ghost use Rattle.record_table.specs.Table.{recordBytes};
 ghost use Rattle.book.specs.Run.{recordsOf, answerAll, bookAll};
 ghost use Rattle.book.specs.Valid.{Valid};
-ghost use Rattle.program_feed.specs.Blocks.{wholeRecords, carried, blockBy, fedBy};
+ghost use Rattle.program_feed.specs.Blocks.{wholeRecords, postedOf, carried, blockBy, fedBy};
 ghost use Rattle.program_feed.specs.Input.{endingBy, Comes};
 use book::Posted;
 use program_input::Got;
 use record_table::RECORD;
+use refusals::Refusal;
 
 // How the reading ended: with the input's end, all records taken; at a refusal; or with a read that failed.
 pub enum Ending {
     Ended,
-    Refused(u8, usize),
+    Refused(Refusal),
     Failed,
 }
 
 // What posting a block gave: the number of bytes of a cut record that are held for the next block, or a refusal.
 enum Fed {
     Held(usize),
-    Refused(u8, usize),
+    Refused(Refusal),
 }
 
 // Posts standard input to a book, block by block, until it ends or a record is refused. The loop ends without a
@@ -44,8 +45,8 @@ pub fn post_input(book: &mut [u8], block: &mut [u8]) -> Ending
             Fed::Held(cut) => {
                 held = cut;
             }
-            Fed::Refused(number, place) => {
-                return Ending::Refused(number, place);
+            Fed::Refused(refusal) => {
+                return Ending::Refused(refusal);
             }
         }
     }
@@ -55,14 +56,14 @@ pub fn post_input(book: &mut [u8], block: &mut [u8]) -> Ending
 fn post_block(book: &mut [u8], block: &mut [u8], filled: usize) -> Fed
     requires { ⌜ Valid (now book) ⌝ }
     requires { ⌜ filled ≤ length (now block) ⌝ }
-    ensures { λ r. ⌜ r ≡ fedBy (answerAll (now (book .entry)) (wholeRecords (now (block .entry)) filled)) filled ⌝ }
+    ensures { λ r. ⌜ r ≡ fedBy (postedOf (now (book .entry)) (now (block .entry)) filled) filled ⌝ }
     ensures { λ _. ⌜ now (book .exit) ≡ bookAll (now (book .entry)) (wholeRecords (now (block .entry)) filled) ⌝ }
-    ensures { λ _. ⌜ now (block .exit) ≡ blockBy (answerAll (now (book .entry)) (wholeRecords (now (block .entry)) filled)) (now (block .entry)) filled ⌝ }
+    ensures { λ _. ⌜ now (block .exit) ≡ blockBy (postedOf (now (book .entry)) (now (block .entry)) filled) (now (block .entry)) filled ⌝ }
 {
     let whole = filled / RECORD * RECORD;
     match book::post_all(book, &block[..whole]) {
         Posted::Taken => Fed::Held(carry(block, whole, filled)),
-        Posted::Refused(number, place) => Fed::Refused(number, place),
+        Posted::Refused(refusal) => Fed::Refused(refusal),
     }
 }
 
@@ -88,6 +89,6 @@ fn post_last(book: &mut [u8], last: &[u8]) -> Ending
 {
     match book::post_all(book, last) {
         Posted::Taken => Ending::Ended,
-        Posted::Refused(number, place) => Ending::Refused(number, place),
+        Posted::Refused(refusal) => Ending::Refused(refusal),
     }
 }

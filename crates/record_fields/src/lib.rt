@@ -1,12 +1,11 @@
 // One entry of a record: a field against its range, bytes that must be 0.
 ghost use mathlib.Core.Path.{_≡_};
-ghost use mathlib.Core.Bool.{cond, _&&_};
+ghost use mathlib.Core.Bool.{_&&_};
 ghost use Prim.Native.Nat.{_+_, _≤_};
 ghost use lib.Dec.{leb};
 ghost use lib.ListN.{length};
 ghost use Rattle.record_table.specs.Table.{from};
-ghost use Rattle.record_table.specs.Number.{numberAt};
-ghost use Rattle.record_fields.specs.Entry.{inRange, nonzeroAt};
+ghost use Rattle.record_fields.specs.Entry.{outsideAt, nonzeroAt};
 
 // A field: its offset, its bytes, its lowest and its highest value.
 pub struct Field(pub usize, pub usize, pub u64, pub u64);
@@ -34,10 +33,10 @@ pub fn nonzero(posted: &[u8], zeros: Zeros, later: usize) -> usize
 // The offset of a field that is outside its range; `later` where it is inside.
 pub fn outside(posted: &[u8], field: Field, later: usize) -> usize
     requires { ⌜ (field .0 + field .1 ≤ length (now posted)) × (field .1 ≤ 8) ⌝ }
-    ensures { λ r. ⌜ r ≡ cond (inRange (from (field .2) (field .3)) (now (posted .entry)) (numberAt (now (posted .entry)) (field .0) (field .1))) later (field .0) ⌝ }
+    ensures { λ r. ⌜ r ≡ outsideAt (now (posted .entry)) (field .0) (field .1) (from (field .2) (field .3)) later ⌝ }
 {
     let at = field.0;
-    if between(field.2, field.3, record_table::number(posted, at, field.1)) {
+    if between(field.2, field.3, number_bytes::number(posted, at, field.1)) {
         return later;
     }
     at

@@ -7,9 +7,9 @@ use native.Mathlib.Omega.{arith}
 use lib.Dec.{T, ltb, ltb→lt}
 use lib.ListN.{length}
 use Rattle.laws.proofs.Table.{left, right, each, at}
-use Rattle.record_table.specs.Table.{Entry, zeros, field, table, entriesOf}
-use Rattle.record_table.specs.Number.{afterMark, numberAt}
-use Rattle.record_fields.specs.Entry.{inRange}
+use Rattle.record_table.specs.Table.{Entry, zeros, field, table, entriesOf, afterMark}
+use Rattle.number_bytes.specs.Number.{numberAt}
+use Rattle.record_fields.specs.Entry.{inRange, outsideAt}
 use Rattle.record_judge.specs.Record.{nowhere, outsideIn}
 
 -- each field, from an offset on, is in its range
@@ -29,7 +29,7 @@ spared true later at t h = (refl, h)
 spared false later at t h = let z : ⊥ = omega (arith, ltb→lt at nowhere t) in absurd z
 
 ranged : (at : ℕ) (es : List Entry) (r : List ℕ) → T (inside at es) → nowhere ≤ outsideIn at es r → Ranged at es r
-unfolding inside outsideIn
+unfolding inside outsideIn outsideAt
 ranged at [] r t h = tt
 ranged at (zeros n ∷ es) r t h = ranged (at + n) es r t h
 ranged at (field wide range ∷ es) r t h =

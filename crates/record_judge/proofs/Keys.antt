@@ -8,18 +8,19 @@ use native.Mathlib.Omega.{arith}
 use borrow.Author.Tests.{leb-true}
 use lib.Dec.{leb}
 use lib.ListN.{length, getD}
-use Rattle.record_table.specs.Table.{from, Entry, u8, noRow, table, highestOf, entriesOf}
-use Rattle.record_table.specs.Number.{afterMark, numberAt}
+use Rattle.record_table.specs.Table.{from, Entry, u8, noRow, table, highestOf, entriesOf, afterMark}
+use Rattle.number_bytes.specs.Number.{numberAt}
 use Rattle.record_table.specs.Slot.{count, index, slots, slotOf}
 use Rattle.record_table.proofs.Slots.{digit-same, Low, index-below, Among, among, among-all, one-row}
 use Rattle.record_fields.specs.Entry.{inRange}
-use Rattle.record_judge.specs.Record.{keyIn, rowOf, keyOf}
-use Rattle.record_judge.proofs.Taken.{Taken}
+use Rattle.record_judge.specs.Record.{keyIn, rowOf, keyOf, judged}
+use Rattle.record_judge.specs.declared.Judged.the-variants.{Empty}
+use Rattle.record_judge.proofs.Taken.{Taken, never-empties}
 use Rattle.record_judge.proofs.Entries.{Ranged, each-ranged}
 
-both : (a b : Bool) → (a && b) ≡ true → (a ≡ true) × (b ≡ true)
+pub both : (a b : Bool) → (a && b) ≡ true → (a ≡ true) × (b ≡ true)
 both true b e = (refl, e)
-both false b e = let z : _≡_ {A = ℕ} 0 1 = cc in let f : ⊥ = omega arith in absurd f
+both false b e = let z : _≡_ {A = ℕ} 0 1 = cc in absurd (omega arith)
 
 pub within : (low high : ℕ) (r : List ℕ) (x : ℕ) → inRange (from low high) r x ≡ true → (low ≤ x) × (x ≤ high)
 unfolding inRange
@@ -71,6 +72,10 @@ module _ (r : List ℕ) (k : ℕ) (t : Taken r k) where
 
   pub slot-below : k < slots
   slot-below = among-all (rowOf r) k (t .row) there
+
+-- and the slot of one that would be emptied lies inside the book too
+pub emptied-below : (r : List ℕ) (k : ℕ) → judged r ≡ Empty k → k < slots
+emptied-below r k e = absurd (never-empties r k e)
 
 -- two records that are taken for one slot have one key
 pub same-row : (r s : List ℕ) (k : ℕ) → Taken r k → Taken s k → rowOf r ≡ rowOf s

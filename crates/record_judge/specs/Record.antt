@@ -1,13 +1,14 @@
--- What posting finds in a record alone (01, "The records", "Refusal numbers"): refusals 1 to 4, or the slot of the record's key.
+-- What a record does, judged alone (01, "The records", "Refusal numbers"): it is refused, 1 to 4, or it puts its bytes into the slot of its key.
 -- Assumes nothing.
 use Prim.Native.Nat.{ℕ, suc, _+_}
 use mathlib.Core.{Bool.cond, List.List, List.[], List._∷_}
 use lib.{Dec.eqb, Dec.ltb, ListN.length, ListN.getD}
-use Rattle.record_table.specs.Table.{Entry, zeros, field, Row, table, highestOf, entriesOf}
-use Rattle.record_table.specs.Number.{recordBytes, afterMark, numberAt}
+use Rattle.record_table.specs.Table.{Entry, zeros, field, Row, table, highestOf, entriesOf, recordBytes, afterMark}
+use Rattle.number_bytes.specs.Number.{numberAt}
 use Rattle.record_table.specs.Slot.{slotOf}
-use Rattle.record_fields.specs.Entry.{inRange, nonzeroAt}
-use Rattle.record_judge.specs.declared.Judged.{Judged, the-variants.Wrong, the-variants.Fill}
+use Rattle.refusals.specs.Refusal.{refusal, notSixteenBytes, unknownMark, notZero, outOfRange}
+use Rattle.record_fields.specs.Entry.{outsideAt, nonzeroAt}
+use Rattle.record_judge.specs.declared.Judged.{Judged, the-variants.Refused, the-variants.Put}
 
 -- the place of what is not found: past the record's last byte
 abbrev pub nowhere : ℕ
@@ -23,7 +24,7 @@ nonzeroIn at (field wide range ∷ es) r = nonzeroIn (at + wide) es r
 unfoldable pub outsideIn : ℕ → List Entry → List ℕ → ℕ
 outsideIn at [] r = nowhere
 outsideIn at (zeros n ∷ es) r = outsideIn (at + n) es r
-outsideIn at (field wide range ∷ es) r = cond (inRange range r (numberAt r at wide)) (outsideIn (at + wide) es r) at
+outsideIn at (field wide range ∷ es) r = outsideAt r at wide range (outsideIn (at + wide) es r)
 
 -- the bytes of a key from an offset on, one for each highest value
 unfoldable pub keyIn : ℕ → List ℕ → List ℕ → List ℕ
@@ -41,13 +42,22 @@ rowOf r = rowIn (numberAt r 0 afterMark) table
 unfoldable pub keyOf : ℕ → List ℕ → List ℕ
 keyOf row r = keyIn afterMark (highestOf row) r
 
--- a zero byte that is not 0 is refusal 3 at its offset; else a field outside its range is refusal 4 at its offset; else the record fills its slot
+-- a zero byte that is not 0 is refused at its offset; else a field outside its range is, at its offset; else the record is put into its slot
 unfoldable pub verdict : ℕ → ℕ → ℕ → Judged
-verdict nonzero outside slot = cond (ltb nonzero nowhere) (Wrong 3 nonzero) (cond (ltb outside nowhere) (Wrong 4 outside) (Fill slot))
+verdict nonzero outside slot =
+    cond (ltb nonzero nowhere) (Refused (refusal notZero nonzero))
+    (cond (ltb outside nowhere) (Refused (refusal outOfRange outside)) (Put slot))
 
--- a record judged by a row; and any bytes judged: not sixteen is refusal 1, and letters that no row has are refusal 2, both at place 0
+-- a record judged by a row; and any bytes judged: other than sixteen of them are refused, and so are letters that no row has, both at place 0
 unfoldable pub judgedAs : ℕ → List ℕ → Judged
 judgedAs row r = verdict (nonzeroIn afterMark (entriesOf row) r) (outsideIn afterMark (entriesOf row) r) (slotOf row (keyOf row r))
 
 unfoldable pub judged : List ℕ → Judged
-judged r = cond (eqb (length r) recordBytes) (cond (ltb (rowOf r) (length table)) (judgedAs (rowOf r) r) (Wrong 2 0)) (Wrong 1 0)
+judged r =
+    cond (eqb (length r) recordBytes)
+    (cond (ltb (rowOf r) (length table)) (judgedAs (rowOf r) r) (Refused (refusal unknownMark 0)))
+    (Refused (refusal notSixteenBytes 0))
+
+-- the sixteen bytes that a record puts into its slot: the record as it came
+unfoldable pub storedOf : List ℕ → List ℕ
+storedOf r = r

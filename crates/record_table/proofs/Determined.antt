@@ -1,7 +1,7 @@
 -- No two outcomes fit the contract of a public function. Assumes nothing.
 use Rattle.laws.proofs.Determined.{OneAnswer, one}
-use Rattle.record_table.proofs.signed.Reads as Signed
-use Rattle.record_table.proofs.number.Reads as Number
+use Rattle.record_table.proofs.one_slot.Reads as OneSlot
+use Rattle.record_table.proofs.two_slot.Reads as TwoSlot
 use Rattle.record_table.proofs.year_slot.Reads as YearSlot
 use Rattle.record_table.proofs.line_slot.Reads as LineSlot
 use Rattle.record_table.proofs.head_slot.Reads as HeadSlot
@@ -10,11 +10,11 @@ use Rattle.record_table.proofs.drain_slot.Reads as DrainSlot
 use Rattle.record_table.proofs.project_slot.Reads as ProjectSlot
 use Rattle.record_table.proofs.meter_slot.Reads as MeterSlot
 
-pub signed-one : OneAnswer Signed.Learnt
-signed-one κ a x y s t = one
+pub one-slot-one : OneAnswer OneSlot.Learnt
+one-slot-one κ a x y s t = one
 
-pub number-one : OneAnswer Number.Learnt
-number-one κ a x y s t p q = one (p .0) (q .0)
+pub two-slot-one : OneAnswer TwoSlot.Learnt
+two-slot-one κ a x y s t = one
 
 pub year-slot-one : OneAnswer YearSlot.Learnt
 year-slot-one κ a x y s t = one

@@ -1,11 +1,9 @@
-// The numbers in a record's bytes, and the slot of each key.
+// How many lines, categories, months and devices there are, and the slot of every key.
 ghost use mathlib.Core.Path.{_≡_};
 ghost use mathlib.Core.List.{[], _∷_};
-ghost use Prim.Native.Nat.{_+_, _-_, _^_, _≤_, _<_};
-ghost use lib.ListN.{length};
+ghost use Prim.Native.Nat.{_+_, _-_, _^_, _<_};
 ghost use Rattle.record_table.specs.Table.{yr, ln, hd, tp, dr, pe, mt};
-ghost use Rattle.record_table.specs.Number.{numberAt, signedOf};
-ghost use Rattle.record_table.specs.Slot.{slotOf};
+ghost use Rattle.record_table.specs.Slot.{index, slotOf};
 
 // A record's bytes.
 pub const RECORD: usize = 16;
@@ -36,36 +34,36 @@ const FIRST_MT: usize = FIRST_PE + MONTHS;
 
 pub const SLOTS: usize = FIRST_MT + MONTHS * DEVICES;
 
-// Sixteen bits as a signed number.
-pub fn signed(bits: u64) -> i16
-    requires { ⌜ bits < 2 ^ 16 ⌝ }
-    ensures { λ r. ⌜ r ≡ signedOf bits ⌝ }
+// A mark's key of one byte, or of two: the first of its slots, and the highest value of each byte.
+pub struct One(pub usize, pub usize);
+
+pub struct Two(pub usize, pub usize, pub usize);
+
+pub const LN: One = One(FIRST_LN, LINES);
+
+pub const HD: Two = Two(FIRST_HD, CATEGORIES, MONTHS);
+
+pub const TP: One = One(FIRST_TP, MONTHS);
+
+pub const DR: Two = Two(FIRST_DR, LINES, MONTHS);
+
+pub const PE: One = One(FIRST_PE, MONTHS);
+
+pub const MT: Two = Two(FIRST_MT, MONTHS, DEVICES);
+
+// The slot of a key of one byte, and of two.
+pub fn one_slot(key: One, byte: usize) -> usize
+    requires { ⌜ (key .0 < 2 ^ 32) × (byte < 256) ⌝ }
+    ensures { λ r. ⌜ r ≡ key .0 + index (key .1 ∷ []) (byte ∷ []) ⌝ }
 {
-    if bits < 0x8000 {
-        return bits as i16;
-    }
-    (bits as i32 - 0x1_0000) as i16
+    key.0 + earlier(byte)
 }
 
-// The little-endian number of some bytes.
-pub fn number(bytes: &[u8], at: usize, wide: usize) -> u64
-    requires { ⌜ (at + wide ≤ length (now bytes)) × (wide ≤ 8) ⌝ }
-    ensures { λ r. ⌜ r ≡ numberAt (now (bytes .entry)) at wide ⌝ }
-    ensures { λ r. ⌜ r < 256 ^ wide ⌝ }
+pub fn two_slot(key: Two, first: usize, second: usize) -> usize
+    requires { ⌜ (key .0 < 2 ^ 32) × (key .2 < 256) × (first < 256) × (second < 256) ⌝ }
+    ensures { λ r. ⌜ r ≡ key .0 + index (key .1 ∷ key .2 ∷ []) (first ∷ second ∷ []) ⌝ }
 {
-    let mut value: u64 = 0;
-    let mut i = wide;
-    while 0 < i {
-        i -= 1;
-        value = value * 256 + widened(bytes[at + i]);
-    }
-    value
-}
-
-fn widened(byte: u8) -> u64
-    ensures { λ r. ⌜ r ≡ byte ⌝ }
-{
-    byte as u64
+    key.0 + earlier(first) * key.2 + earlier(second)
 }
 
 // The slot of each mark's key.
@@ -79,42 +77,42 @@ pub fn line_slot(line: usize) -> usize
     requires { ⌜ line < 256 ⌝ }
     ensures { λ r. ⌜ r ≡ slotOf ln (line ∷ []) ⌝ }
 {
-    FIRST_LN + earlier(line)
+    one_slot(LN, line)
 }
 
 pub fn head_slot(category: usize, month: usize) -> usize
     requires { ⌜ (category < 256) × (month < 256) ⌝ }
     ensures { λ r. ⌜ r ≡ slotOf hd (category ∷ month ∷ []) ⌝ }
 {
-    FIRST_HD + earlier(category) * MONTHS + earlier(month)
+    two_slot(HD, category, month)
 }
 
 pub fn temperature_slot(month: usize) -> usize
     requires { ⌜ month < 256 ⌝ }
     ensures { λ r. ⌜ r ≡ slotOf tp (month ∷ []) ⌝ }
 {
-    FIRST_TP + earlier(month)
+    one_slot(TP, month)
 }
 
 pub fn drain_slot(line: usize, month: usize) -> usize
     requires { ⌜ (line < 256) × (month < 256) ⌝ }
     ensures { λ r. ⌜ r ≡ slotOf dr (line ∷ month ∷ []) ⌝ }
 {
-    FIRST_DR + earlier(line) * MONTHS + earlier(month)
+    two_slot(DR, line, month)
 }
 
 pub fn project_slot(month: usize) -> usize
     requires { ⌜ month < 256 ⌝ }
     ensures { λ r. ⌜ r ≡ slotOf pe (month ∷ []) ⌝ }
 {
-    FIRST_PE + earlier(month)
+    one_slot(PE, month)
 }
 
 pub fn meter_slot(month: usize, device: usize) -> usize
     requires { ⌜ (month < 256) × (device < 256) ⌝ }
     ensures { λ r. ⌜ r ≡ slotOf mt (month ∷ device ∷ []) ⌝ }
 {
-    FIRST_MT + earlier(month) * DEVICES + earlier(device)
+    two_slot(MT, month, device)
 }
 
 // A key byte counts from 1: how many come before it. A byte of 0 has none before it either.

@@ -17,26 +17,8 @@ abbrev μ-loop : tie.MeasureT-loop
 loop-holds : tie.Need-loop-holds Inv-loop μ-loop
 loop-holds c = (search needs, start _ _ (c .before .before .pre))
 
-record-end-requires : tie.Need-record-end-requires Inv-loop μ-loop
-record-end-requires c κs = search needs
-
-sub-post : tie.Need-sub-post Inv-loop μ-loop
-sub-post c = search needs
-
-part-post-start : tie.Need-part-post-start Inv-loop μ-loop
-part-post-start c = search needs
-
-part-post-end : tie.Need-part-post-end Inv-loop μ-loop
-part-post-end c = search needs
-
 post-requires : tie.Need-post-requires Inv-loop μ-loop
 post-requires c κs = c .before .before .before .before .loop .inv .1 .valid
-
-enum-known-answer : tie.Need-enum-known-answer Inv-loop μ-loop
-enum-known-answer c = search needs
-
-same-length : tie.Need-same-length Inv-loop μ-loop
-same-length c = search needs
 
 returns : tie.Need-returns Inv-loop μ-loop
 returns c =
@@ -47,14 +29,8 @@ returns c =
     let p = c .before .before .before .before .before .post .ensures in
     let its = ap (λ (n : ℕ). take (n - at) (drop at run)) (c .before .before .before .before .before .before .before .before .record-end .ensures) ∙ next-record run at (l .loop .inv .1 .place) more in
     let answer = sym (p .0) ∙ c .before .answer .given .1 in
-    let s = stopped _ _ _ _ (l .loop .inv .1) more _ its _ _ answer in
+    let s = stopped _ _ _ _ (l .loop .inv .1) more _ its _ answer in
     (s .0, p .1 ∙ s .1)
-
-enum-told : tie.Need-enum-told Inv-loop μ-loop
-enum-told c = search needs
-
-loop-less : tie.Need-loop-less Inv-loop μ-loop
-loop-less c = search needs
 
 loop-again : tie.Need-loop-again Inv-loop μ-loop
 loop-again c =
@@ -67,9 +43,6 @@ loop-again c =
     let answer = sym (p .0) ∙ c .enum-told .given .1 in
     (omega arith, onwards _ _ _ _ (l .loop .inv .1) more _ its answer _ (p .1) _ (c .before .before .before .before .before .before .before .record-end .ensures))
 
-same-length-2 : tie.Need-same-length-2 Inv-loop μ-loop
-same-length-2 c = search needs
-
 returns-2 : tie.Need-returns-2 Inv-loop μ-loop
 returns-2 c = ended _ _ _ _ (c .before .loop .inv .1) (c .loop-test .left)
 
@@ -80,16 +53,16 @@ post-all-spec =
     Inv-loop
     μ-loop
     loop-holds
-    record-end-requires
-    sub-post
-    part-post-start
-    part-post-end
+    (λ c κs. search needs)
+    (λ c. search needs)
+    (λ c. search needs)
+    (λ c. search needs)
     post-requires
-    enum-known-answer
-    same-length
+    (λ c. search needs)
+    (λ c. search needs)
     returns
-    enum-told
-    loop-less
+    (λ c. search needs)
+    (λ c. search needs)
     loop-again
-    same-length-2
+    (λ c. search needs)
     returns-2)

@@ -3,27 +3,6 @@ use borrow.Author.Needs.{needs}
 use Rattle.book_herd.proofs.line_at.Statement.{statement}
 use Rattle.book_herd.proofs.line_at.Tie as tie
 
-line-number-requires : tie.Need-line-number-requires
-line-number-requires c κs = search needs
-
-line-number-requires-2 : tie.Need-line-number-requires-2
-line-number-requires-2 c κs = search needs
-
-line-number-requires-3 : tie.Need-line-number-requires-3
-line-number-requires-3 c κs = search needs
-
-line-number-requires-4 : tie.Need-line-number-requires-4
-line-number-requires-4 c κs = search needs
-
-line-number-requires-5 : tie.Need-line-number-requires-5
-line-number-requires-5 c κs = search needs
-
-line-number-requires-6 : tie.Need-line-number-requires-6
-line-number-requires-6 c κs = search needs
-
-line-number-requires-7 : tie.Need-line-number-requires-7
-line-number-requires-7 c κs = search needs
-
 returns : tie.Need-returns
 returns c =
     rw (
@@ -40,11 +19,11 @@ pub line-at-spec : {M : Type 1} → statement M
 line-at-spec =
     tie.close
     (tie.spec
-    line-number-requires
-    line-number-requires-2
-    line-number-requires-3
-    line-number-requires-4
-    line-number-requires-5
-    line-number-requires-6
-    line-number-requires-7
+    (λ c κs. search needs)
+    (λ c κs. search needs)
+    (λ c κs. search needs)
+    (λ c κs. search needs)
+    (λ c κs. search needs)
+    (λ c κs. search needs)
+    (λ c κs. search needs)
     returns)

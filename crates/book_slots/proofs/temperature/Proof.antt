@@ -1,34 +1,29 @@
 -- `book_slots::temperature` meets its contract: the slot of its month lies inside the book, and the test picks the case. Assumes nothing.
-use mathlib.Core.Path.{_≡_, sym, ap, _∙_, subst⁻¹}
+use mathlib.Core.Path.{_≡_, sym, ap, _∙_}
 use mathlib.Core.Bool.{true, false, not}
 use mathlib.Core.List.{[], _∷_}
-use Prim.Native.Nat.{ℕ, _+_, _*_, _<_}
+use Prim.Native.Nat.{ℕ, _+_, _*_}
 use native.Mathlib.Omega.{arith}
 use borrow.Author.Needs.{needs}
 use lib.Dec.{lit≤}
-use Rattle.record_table.specs.Table.{tp}
-use Rattle.record_table.specs.Number.{recordBytes, numberAt, signedOf}
-use Rattle.record_table.specs.Slot.{slots, slotOf}
+use Rattle.record_table.specs.Table.{tp, recordBytes}
+use Rattle.number_bytes.specs.Number.{numberAt, signedOf}
+use Rattle.record_table.specs.Slot.{slotOf}
 use Rattle.book.specs.Book.{free}
 use Rattle.book_slots.specs.declared.Warmth.the-variants.{Tenths}
 use Rattle.book_slots.proofs.Inside.{inside}
 use Rattle.book_slots.proofs.temperature.Statement.{statement}
 use Rattle.book_slots.proofs.temperature.Tie as tie
 
-temperature-slot-requires : tie.Need-temperature-slot-requires
-temperature-slot-requires c κs = search needs
-
 filled-requires : tie.Need-filled-requires
 filled-requires c κs =
     let s = c .before .before in
-    let below = subst⁻¹ (λ (n : ℕ). n < slots) (c .temperature-slot .ensures) (inside tp (lit≤ tt) (s .args .month ∷ []) (omega arith, tt)) in
-    (s .pre .0, below)
+    (s .pre .0, inside tp (lit≤ tt) _ (c .temperature-slot .ensures) (omega arith, tt))
 
 tenths-requires : tie.Need-tenths-requires
 tenths-requires c κs =
     let s = c .before .before .before .before in
-    let below = subst⁻¹ (λ (n : ℕ). n < slots) (c .before .before .temperature-slot .ensures) (inside tp (lit≤ tt) (s .args .month ∷ []) (omega arith, tt)) in
-    (s .pre .0, below)
+    (s .pre .0, inside tp (lit≤ tt) _ (c .before .before .temperature-slot .ensures) (omega arith, tt))
 
 returns : tie.Need-returns
 returns c =
@@ -48,4 +43,4 @@ returns-2 c =
 pub temperature-spec : {M : Type 1} → statement M
 temperature-spec =
     tie.close
-    (tie.spec temperature-slot-requires filled-requires tenths-requires returns returns-2)
+    (tie.spec (λ c κs. search needs) filled-requires tenths-requires returns returns-2)

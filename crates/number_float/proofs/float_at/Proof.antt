@@ -7,17 +7,11 @@ use borrow.Author.Needs.{needs}
 use Rattle.number_float.proofs.float_at.Statement.{statement}
 use Rattle.number_float.proofs.float_at.Tie as tie
 
-number-requires : tie.Need-number-requires
-number-requires c κs = search needs
-
 cast-of-bits : tie.Need-cast-of-bits
 cast-of-bits c = omega (arith, c .number .ensures .1)
-
-of-bits-requires : tie.Need-of-bits-requires
-of-bits-requires c κs = search needs
 
 returns : tie.Need-returns
 returns c = c .of-bits .ensures ∙ ap (ofBits binary32) (c .before .number .ensures .0)
 
 pub float-at-spec : {M : Type 1} → statement M
-float-at-spec = tie.close (tie.spec number-requires cast-of-bits of-bits-requires returns)
+float-at-spec = tie.close (tie.spec (λ c κs. search needs) cast-of-bits (λ c κs. search needs) returns)

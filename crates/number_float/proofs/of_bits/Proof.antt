@@ -37,8 +37,5 @@ returns c =
     let n = c .before .args .bits in
     zero-by-zero ∙ sym (only-nan (ofBits binary32 n) (sym (nanBits-is binary32 n) ∙ is-test n ∙ lt-ltb 0x7f80_0000 (bitAnd n 0x7fff_ffff) (c .if1 .taken)))
 
-returns-2 : tie.Need-returns-2
-returns-2 c = search needs
-
 pub of-bits-spec : {M : Type 1} → statement M
-of-bits-spec = tie.close (tie.spec float-from-bits-result returns returns-2)
+of-bits-spec = tie.close (tie.spec float-from-bits-result returns (λ c. search needs))

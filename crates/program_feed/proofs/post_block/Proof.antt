@@ -9,32 +9,8 @@ use Rattle.book.specs.declared.Posted.{Posted}
 use Rattle.program_feed.proofs.post_block.Statement.{statement}
 use Rattle.program_feed.proofs.post_block.Tie as tie
 
-mul-whole : tie.Need-mul-whole
-mul-whole c = search needs
-
-slice-reshare-prefix-post-all : tie.Need-slice-reshare-prefix-post-all
-slice-reshare-prefix-post-all c = search needs
-
 slice-aggregate-post-all : tie.Need-slice-aggregate-post-all
 slice-aggregate-post-all c = let s = c .before .before .before .before in sym (length-take-le _ _ (omega (arith, s .pre .1)))
-
-post-all-requires : tie.Need-post-all-requires
-post-all-requires c κs = search needs
-
-enum-told : tie.Need-enum-told
-enum-told c = search needs
-
-carry-requires : tie.Need-carry-requires
-carry-requires c κs = search needs
-
-enum-known-number : tie.Need-enum-known-number
-enum-known-number c = search needs
-
-same-length : tie.Need-same-length
-same-length c = search needs
-
-same-length-2 : tie.Need-same-length-2
-same-length-2 c = search needs
 
 returns : tie.Need-returns
 unfolding wholeRecords
@@ -50,18 +26,12 @@ returns c =
       ),
     )
 
-same-length-3 : tie.Need-same-length-3
-same-length-3 c = search needs
-
-same-length-4 : tie.Need-same-length-4
-same-length-4 c = search needs
-
 returns-2 : tie.Need-returns-2
 unfolding wholeRecords
 returns-2 c =
     let s = c .before .before .before .before .before .before .before .before .before .before in
     let post = c .before .before .before .before .before .post-all in
-    let answer = sym (post .ensures .0) ∙ c .before .number .given .1 in (
+    let answer = sym (post .ensures .0) ∙ c .before .refusal .given .1 in (
       sym (ap (λ (p : Posted). fedBy p (s .args .filled)) answer),
       (
         post .ensures .1,
@@ -73,16 +43,16 @@ pub post-block-spec : {M : Type 1} → statement M
 post-block-spec =
     tie.close
     (tie.spec
-    mul-whole
-    slice-reshare-prefix-post-all
+    (λ c. search needs)
+    (λ c. search needs)
     slice-aggregate-post-all
-    post-all-requires
-    enum-told
-    carry-requires
-    enum-known-number
-    same-length
-    same-length-2
+    (λ c κs. search needs)
+    (λ c. search needs)
+    (λ c κs. search needs)
+    (λ c. search needs)
+    (λ c. search needs)
+    (λ c. search needs)
     returns
-    same-length-3
-    same-length-4
+    (λ c. search needs)
+    (λ c. search needs)
     returns-2)

@@ -8,7 +8,7 @@ use lib.ListN.{length}
 use lib.Seq.{length-take-le}
 use Rattle.program_input.proofs.Within.{given}
 use Rattle.program_feed.specs.declared.Fed.the-variants.{Held}
-use Rattle.program_feed.proofs.Posting.{kept-all}
+use Rattle.book.proofs.Kept.{kept-all}
 use Rattle.program_feed.proofs.Reading.{Reading, begin, valid, left, unread-after, ended, onwards, stopped}
 use Rattle.program_feed.proofs.post_input.Statement.{statement}
 use Rattle.program_feed.proofs.post_input.Tie as tie
@@ -24,12 +24,6 @@ loop-holds c = (begin (c .before .before .args .book .now) (c .before .before .a
 
 read-more-requires : tie.Need-read-more-requires Inv-loop μ-loop
 read-more-requires c κs = let w = c .before .loop .inv in omega (arith, w .0 .short, w .2, c .before .before .before .before .pre .1)
-
-enum-known-count : tie.Need-enum-known-count Inv-loop μ-loop
-enum-known-count c = search needs
-
-enum-told : tie.Need-enum-told Inv-loop μ-loop
-enum-told c = search needs
 
 same-length : tie.Need-same-length Inv-loop μ-loop
 same-length c = c .before .before .before .before .before .before .loop .inv .1
@@ -95,9 +89,6 @@ turned c e =
     onwards (c .before .before .before .before .before .before .before .before .before .before .before .loop .inv .0) (more .last .0) (more .ensures .1) (c .before .before .before .before .before .count .given .0 .0) (fits (c .before)) (block .0) (block .1 .0) (block .1 .1)
     (pos-of-ne-zero (c .before .before .before .if1 .left)) e
 
-enum-known-cut : tie.Need-enum-known-cut Inv-loop μ-loop
-enum-known-cut c = search needs
-
 loop-less : tie.Need-loop-less Inv-loop μ-loop
 loop-less c = turned (c .before .before .before .before .before .before .before) (c .before .cut .given .1) .1
 
@@ -106,9 +97,6 @@ loop-again c =
     let w = c .before .before .before .before .before .before .before .before .before .before .before .before .before .before .before .before .before .before .loop .inv in
     let kept = c .before .before .before .before .before .before .before .post-block .kept in
     (turned (c .before .before .before .before .before .before .before) (c .before .cut .given .1) .0, kept .0 ∙ w .1, kept .1 .0 ∙ c .before .before .before .before .before .before .before .before .before .before .before .before .before .before .before .before .read-more .kept .0 ∙ w .2)
-
-enum-known-number : tie.Need-enum-known-number Inv-loop μ-loop
-enum-known-number c = search needs
 
 same-length-5 : tie.Need-same-length-5 Inv-loop μ-loop
 same-length-5 c = c .before .before .before .before .before .before .before .post-block .kept .0 ∙ c .before .before .before .before .before .before .before .before .before .before .before .before .before .before .before .before .before .before .loop .inv .1
@@ -121,7 +109,7 @@ returns-3 c =
     let w = c .before .before .before .before .before .before .before .before .before .before .before .before .before .before .before .before .before .before .loop .inv .0 in
     let more = c .before .before .before .before .before .before .before .before .before .before .before .before .before .before .before .before .read-more in
     let block = c .before .before .before .before .before .before .before .post-block .ensures in (
-      stopped w (more .last .0) (more .ensures .1) (c .before .before .before .before .before .before .before .before .before .before .before .before .count .given .0 .0) (fits (c .before .before .before .before .before .before .before .before)) (block .0) (block .1 .0) (block .1 .1) (c .before .number .given .1),
+      stopped w (more .last .0) (more .ensures .1) (c .before .before .before .before .before .before .before .before .before .before .before .before .count .given .0 .0) (fits (c .before .before .before .before .before .before .before .before)) (block .0) (block .1 .0) (block .1 .1) (c .before .refusal .given .1),
       rw (block .1 .0) (kept-all _ _ (valid w)),
     )
 
@@ -133,8 +121,8 @@ post-input-spec =
     μ-loop
     loop-holds
     read-more-requires
-    enum-known-count
-    enum-told
+    (λ c. search needs)
+    (λ c. search needs)
     same-length
     same-length-2
     returns
@@ -146,10 +134,10 @@ post-input-spec =
     returns-2
     add-post-block
     post-block-requires
-    enum-known-cut
+    (λ c. search needs)
     loop-less
     loop-again
-    enum-known-number
+    (λ c. search needs)
     same-length-5
     same-length-6
     returns-3)

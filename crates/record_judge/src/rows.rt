@@ -17,7 +17,7 @@ pub const PE: u64 = b'P' as u64 + 256 * (b'E' as u64);
 
 pub const MT: u64 = b'M' as u64 + 256 * (b'T' as u64);
 
-// The entries of each mark, in the order of the paper's table. YR
+// The entries of each mark after its key, in the order of the paper's table. YR
 pub const YR_FIRST_YEAR: Field = Field(2, 2, 2000, 2089);
 
 pub const YR_FIRST_MONTH: Field = Field(4, 1, 1, 12);
@@ -25,8 +25,6 @@ pub const YR_FIRST_MONTH: Field = Field(4, 1, 1, 12);
 pub const YR_ZEROS: Zeros = Zeros(5, 11);
 
 // LN
-pub const LN_LINE: Field = Field(2, 1, 1, record_table::LINES as u64);
-
 pub const LN_SYSTEM_AT: usize = 3;
 
 pub const LN_SYSTEM: Field = Field(LN_SYSTEM_AT, 1, 0, 1);
@@ -50,17 +48,11 @@ pub const LN_CONVERSION_FACTOR: Field = Field(14, 2, 0, 10000);
 pub const LN_ANAEROBIC_CONVERSION_FACTOR: Field = Field(14, 2, 0, 0);
 
 // HD
-pub const HD_CATEGORY: Field = Field(2, 1, 1, record_table::CATEGORIES as u64);
-
-pub const HD_MONTH: Field = Field(3, 1, 1, record_table::MONTHS as u64);
-
 pub const HD_HEAD: Field = Field(4, 4, 0, 100000);
 
 pub const HD_ZEROS: Zeros = Zeros(8, 8);
 
 // TP
-pub const TP_MONTH: Field = Field(2, 1, 1, record_table::MONTHS as u64);
-
 pub const TP_FIRST_ZERO: Zeros = Zeros(3, 1);
 
 pub const TP_TEMPERATURE_AT: usize = 4;
@@ -74,16 +66,10 @@ pub const TP_HOTTEST: i16 = 600;
 pub const TP_LAST_ZEROS: Zeros = Zeros(6, 10);
 
 // DR
-pub const DR_LINE: Field = Field(2, 1, 1, record_table::LINES as u64);
-
-pub const DR_MONTH: Field = Field(3, 1, 1, record_table::MONTHS as u64);
-
 pub const DR_ZEROS: Zeros = Zeros(4, 12);
 
 // PE, whose figures have all of u32
 const ALL_OF_U32: u64 = 0xffff_ffff;
-
-pub const PE_MONTH: Field = Field(2, 1, 1, record_table::MONTHS as u64);
 
 pub const PE_ZERO: Zeros = Zeros(3, 1);
 
@@ -94,10 +80,6 @@ pub const PE_BASELINE_CO2: Field = Field(8, 4, 0, ALL_OF_U32);
 pub const PE_PROJECT_CO2: Field = Field(12, 4, 0, ALL_OF_U32);
 
 // MT
-pub const MT_MONTH: Field = Field(2, 1, 1, record_table::MONTHS as u64);
-
-pub const MT_DEVICE: Field = Field(3, 1, 1, record_table::DEVICES as u64);
-
 pub const MT_DESTROYED: Field = Field(4, 8, 0, 1_000_000_000_000);
 
 pub const MT_ZEROS: Zeros = Zeros(12, 4);

@@ -1,14 +1,14 @@
--- `record_table::number`: v is the number of the bytes from at + i on. Assumes nothing.
+-- `number_bytes::number`: v is the number of the bytes from at + i on. Assumes nothing.
 use mathlib.Core.Path.{_≡_, sym, ap, _∙_, subst}
 use Prim.Native.Nat.{ℕ, _+_, _*_, _-_, _^_, _≤_, _<_}
 use native.Mathlib.Nat.{sub-self}
 use native.Mathlib.Omega.{arith}
 use borrow.Author.Needs.{needs}
 use lib.ListN.{getD}
-use Rattle.record_table.specs.Number.{numberAt}
-use Rattle.record_table.proofs.Numbers.{number-step, number-bound, number-fits}
-use Rattle.record_table.proofs.number.Statement.{statement}
-use Rattle.record_table.proofs.number.Tie as tie
+use Rattle.number_bytes.specs.Number.{numberAt}
+use Rattle.number_bytes.proofs.Numbers.{number-step, number-bound, number-fits}
+use Rattle.number_bytes.proofs.number.Statement.{statement}
+use Rattle.number_bytes.proofs.number.Tie as tie
 
 abbrev Inv-loop : tie.InvT-loop
 Inv-loop bytes at wide value₀ i₀ value i = (i ≤ wide) × (value ≡ numberAt bytes (at + i) (wide - i))
@@ -36,26 +36,11 @@ small c =
     subst (λ (x : ℕ). x < 2 ^ 64) (turn c)
     (number-fits (a .bytes .now) (λ k. c .before .before .shared-slice-known .given k .fits) (a .at + (c .before .loop .i - 1)) (a .wide - (c .before .loop .i - 1)) (omega arith))
 
-sub-i : tie.Need-sub-i Inv-loop μ-loop
-sub-i c = search needs
-
 mul-value : tie.Need-mul-value Inv-loop μ-loop
 mul-value c = omega (arith, small c)
 
-add-widened : tie.Need-add-widened Inv-loop μ-loop
-add-widened c = search needs
-
-shared-slice-read-widened : tie.Need-shared-slice-read-widened Inv-loop μ-loop
-shared-slice-read-widened c = search needs
-
-widened-requires : tie.Need-widened-requires Inv-loop μ-loop
-widened-requires c κs = search needs
-
 add-value : tie.Need-add-value Inv-loop μ-loop
 add-value c = omega (arith, small (c .before .before))
-
-loop-less : tie.Need-loop-less Inv-loop μ-loop
-loop-less c = search needs
 
 loop-again : tie.Need-loop-again Inv-loop μ-loop
 loop-again c = (search needs, omega (arith, turn (c .before .before), c .widened .ensures))
@@ -77,12 +62,12 @@ number-spec =
     Inv-loop
     μ-loop
     loop-holds
-    sub-i
+    (λ c. search needs)
     mul-value
-    add-widened
-    shared-slice-read-widened
-    widened-requires
+    (λ c. search needs)
+    (λ c. search needs)
+    (λ c κs. search needs)
     add-value
-    loop-less
+    (λ c. search needs)
     loop-again
     returns)

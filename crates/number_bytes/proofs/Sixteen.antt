@@ -8,7 +8,7 @@ use lib.IntN.{ℤ, pos, negsuc, _-ℤ_}
 use mir.Syntax.{w16, w32}
 use mir.Val.{toZ, ofZ, SFits}
 use mir.Facts.{toZ-ofZ, toZ-pos}
-use Rattle.record_table.specs.Number.{signedOf}
+use Rattle.number_bytes.specs.Number.{signedOf}
 
 pub as-it-is : (n : ℕ) → n < 2 ^ 15 → toZ w16 n ≡ signedOf n
 unfolding signedOf

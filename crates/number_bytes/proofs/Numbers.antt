@@ -5,7 +5,7 @@ use Prim.Native.Nat.{ℕ, zero, suc, _+_, _*_, _-_, _^_, _≤_, _<_}
 use native.Mathlib.Nat.{pow-zero, pow-suc, lt-of-lt-of-le, pow-le-pow-right}
 use native.Mathlib.Omega.{arith}
 use lib.ListN.{getD}
-use Rattle.record_table.specs.Number.{numberAt}
+use Rattle.number_bytes.specs.Number.{numberAt}
 
 pub number-step :
     (s : List ℕ) (at wide i : ℕ) → 0 < i → i ≤ wide →
