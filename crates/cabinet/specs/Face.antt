@@ -21,7 +21,7 @@ emptied memory = cond (sized memory) emptyBook memory
 
 abbrev pub postedOf : Posted → CabinetPosted
 postedOf Taken = record { number = 0; place = 0 }
-postedOf (RefusedRecord number place) = record { number = number; place = place }
+postedOf (RefusedRecord refusal) = record { number = refusal .number; place = refusal .place }
 
 -- a year: number and place beside its figures
 abbrev pub yearBy : ℕ → ℕ → Figures → CabinetYear
@@ -46,11 +46,11 @@ noFigures = record { entered = solids 0; degraded = solids 0; removed = solids 0
 
 abbrev pub yearOf : Answer → CabinetYear
 yearOf (Stated figures) = yearBy 0 0 figures
-yearOf (RefusedYear number place) = yearBy number place noFigures
+yearOf (RefusedYear refusal) = yearBy (refusal .number) (refusal .place) noFigures
 
 abbrev pub monthOf : MonthAnswer → CabinetMonth
 monthOf (Destroyed methane) = record { number = 0; place = 0; destroyed = methane .0 }
-monthOf (RefusedMonth number place) = record { number = number; place = place; destroyed = 0 }
+monthOf (RefusedMonth refusal) = record { number = refusal .number; place = refusal .place; destroyed = 0 }
 
 -- one reading has no number of its own: a month gives refusal 11 for it, at its hour
 abbrev pub readingOf : Measure → CabinetReading

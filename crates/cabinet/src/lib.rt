@@ -11,6 +11,7 @@ ghost use Rattle.year.specs.declared.Answer.the-variants.{Stated, Refused};
 use book::Posted;
 use meter_month::MonthAnswer;
 use meter_reading::Measure;
+use refusals::Refusal;
 use year::Answer;
 use year::Figures;
 
@@ -80,9 +81,9 @@ pub extern "C" fn cabinet_post(book: &mut [u8], posted: &[u8]) -> CabinetPosted
             number: NOT_REFUSED,
             place: 0,
         },
-        Posted::Refused(number, offset) => CabinetPosted {
-            number: number as u64,
-            place: offset as u64,
+        Posted::Refused(refusal) => CabinetPosted {
+            number: refusal.number as u64,
+            place: refusal.place as u64,
         },
     }
 }
@@ -95,7 +96,7 @@ pub extern "C" fn cabinet_year(book: &[u8], year: u64) -> CabinetYear
 {
     match year::year(book, year) {
         Answer::Stated(figures) => stated(figures),
-        Answer::Refused(number, place) => refused(number, place),
+        Answer::Refused(refusal) => refused(refusal),
     }
 }
 
@@ -124,12 +125,12 @@ fn stated(figures: Figures) -> CabinetYear
     }
 }
 
-fn refused(number: u8, place: u64) -> CabinetYear
-    ensures { λ r. ⌜ r ≡ yearOf (Refused number place) ⌝ }
+fn refused(refusal: Refusal) -> CabinetYear
+    ensures { λ r. ⌜ r ≡ yearOf (Refused refusal) ⌝ }
 {
     CabinetYear {
-        number: number as u64,
-        place,
+        number: refusal.number as u64,
+        place: refusal.place as u64,
         entered: 0,
         degraded: 0,
         removed: 0,
@@ -158,9 +159,9 @@ pub extern "C" fn cabinet_month(
             place: 0,
             destroyed: methane.grams(),
         },
-        MonthAnswer::Refused(number, hour) => CabinetMonth {
-            number: number as u64,
-            place: hour as u64,
+        MonthAnswer::Refused(refusal) => CabinetMonth {
+            number: refusal.number as u64,
+            place: refusal.place as u64,
             destroyed: 0,
         },
     }

@@ -1,9 +1,10 @@
 -- No month has fewer than 28 days nor more than 31: each of the lengths that a month is told by lies between.
 -- Assumes nothing.
-use mathlib.Core.Bool.{Bool, true, false, cond, _||_}
+use mathlib.Core.Bool.{_||_}
 use Prim.Native.Nat.{ℕ, _+_, _/_, _%_, _≤_}
 use native.Mathlib.Omega.{arith}
 use lib.Dec.{eqb}
+use Rattle.laws.proofs.Picking.{either}
 use Rattle.calendar.specs.Days.{monthsInYear, leapOf, februaryOf, goneOf, daysOf}
 use Rattle.calendar.proofs.Months.{told, is-told}
 
@@ -11,15 +12,11 @@ pub record Usual (days : ℕ) : Type 0 where
   pub least : 28 ≤ days
   pub most : days ≤ 31
 
-either : (b : Bool) (x y : ℕ) → Usual x → Usual y → Usual (cond b x y)
-either true x y a b = a
-either false x y a b = b
-
 told-usual : (year month : ℕ) → Usual (told year month)
 unfolding told februaryOf
 told-usual year month =
-    either (eqb month 2) _ _ (either (leapOf year) 29 28 (omega arith) (omega arith))
-    (either (eqb month 4 || eqb month 6 || eqb month 9 || eqb month 11) 30 31 (omega arith) (omega arith))
+    either Usual (eqb month 2) (either Usual (leapOf year) (omega arith) (omega arith))
+    (either Usual (eqb month 4 || eqb month 6 || eqb month 9 || eqb month 11) (omega arith) (omega arith))
 
 module _ (first-year first-month month : ℕ) where
   usual : Usual (daysOf first-year first-month month)

@@ -33,7 +33,8 @@ impl Totals {
     }
 
     fn with(self, month: Month) -> Self
-        requires { ⌜ (self .entered .0 + month .entered .0 < gramsMost) × (self .degraded .0 + self .removed .0 + availableOf (self .standing) month < gramsMost) ⌝ }
+        requires { ⌜ (self .entered .0 + month .entered .0 < gramsMost)
+            × (self .degraded .0 + self .removed .0 + availableOf (self .standing) month < gramsMost) ⌝ }
         requires { ⌜ month .factor ≤ million ⌝ }
         ensures { λ r. ⌜ r ≡ withOf self month ⌝ }
     {
@@ -56,7 +57,8 @@ impl Totals {
 // before handed on.
 pub fn run(from: Standing, entered: &[u64], factors: &[u64], drained: &[bool]) -> Totals
     requires { ⌜ RunFits from (now entered) (now factors) (now drained) ⌝ }
-    ensures { λ r. ⌜ r ≡ runFrom from (monthsOf (now (entered .entry)) (now (factors .entry)) (now (drained .entry))) (length (now (entered .entry))) ⌝ }
+    ensures { λ r. ⌜ r ≡ runFrom from (monthsOf (now (entered .entry)) (now (factors .entry)) (now (drained .entry)))
+        (length (now (entered .entry))) ⌝ }
 {
     let mut totals = Totals::start(from);
     for passed in 0..entered.len() {

@@ -3,7 +3,8 @@
 use Prim.Native.{Nat.ℕ, Nat.zero, Nat.suc, Nat._+_, Nat._*_, Char.code}
 use mathlib.Core.{Bool.Bool, Bool.not, Bool._&&_, Bool.cond, List.List, List.[], List._∷_}
 use lib.{Dec.eqb, Dec.leb, Ieee.Float, ListN.length, ListN.getD, ListN.drop}
-use Rattle.record_table.specs.Number.{numberAt}
+use Rattle.number_bytes.specs.Number.{numberAt}
+use Rattle.refusals.specs.Refusal.{refusal, unknownMark, noMonth}
 use Rattle.number_float.specs.Float.{floatBytes, floatAt}
 use Rattle.meter_series.specs.Series.{mostHours}
 use Rattle.meter_month.specs.{declared.MonthAnswer.MonthAnswer, declared.MonthAnswer.the-variants.Refused, Month.monthOf}
@@ -40,5 +41,5 @@ unfoldable pub statedOf : List ℕ → MonthAnswer
 statedOf input =
     let flows = numberAt input 4 2 in
     let contents = numberAt input 6 2 in
-    cond (isOtherMark input) (Refused 2 0)
-    (cond (isWhole input flows contents (numberAt input 8 2)) (lentOf input flows contents) (Refused 10 0))
+    cond (isOtherMark input) (Refused (refusal unknownMark 0))
+    (cond (isWhole input flows contents (numberAt input 8 2)) (lentOf input flows contents) (Refused (refusal noMonth 0)))

@@ -2,17 +2,14 @@
 ghost use mathlib.Core.Path.{_≡_};
 ghost use Prim.Native.Nat.{_+_, _*_, _≤_};
 ghost use lib.ListN.{length, take};
+ghost use Rattle.refusals.specs.Refusal.{refusal};
+ghost use Rattle.meter_month.specs.declared.MonthAnswer.the-variants.{Refused};
 ghost use Rattle.meter_series.specs.Series.{mostHours};
 ghost use Rattle.number_float.specs.Float.{floatBytes};
 ghost use Rattle.meter_bytes.specs.Format.{headerBytes, isOtherMark, floatsAt, lentOf, statedOf};
 use meter_month::MonthAnswer;
 use number_float::FLOAT;
-
-// Refused: a mark other than CM.
-const UNKNOWN_MARK: u8 = 2;
-
-// Refused: no such month was lent.
-const NO_MONTH: u8 = 10;
+use refusals::Refusal;
 
 // The bytes before the first flow.
 const HEADER: usize = 10;
@@ -37,18 +34,24 @@ pub fn stated(input: &[u8]) -> MonthAnswer
     ensures { λ r. ⌜ r ≡ statedOf (now (input .entry)) ⌝ }
 {
     if is_other_mark(input) {
-        return MonthAnswer::Refused(UNKNOWN_MARK, 0);
+        return refused(refusals::UNKNOWN_MARK, 0);
     }
     if input.len() < HEADER {
-        return MonthAnswer::Refused(NO_MONTH, 0);
+        return refused(refusals::NO_MONTH, 0);
     }
-    let flows = record_table::number(input, FLOWS_AT, HALF) as usize;
-    let contents = record_table::number(input, CONTENTS_AT, HALF) as usize;
-    let states = record_table::number(input, STATES_AT, HALF) as usize;
+    let flows = number_bytes::number(input, FLOWS_AT, HALF) as usize;
+    let contents = number_bytes::number(input, CONTENTS_AT, HALF) as usize;
+    let states = number_bytes::number(input, STATES_AT, HALF) as usize;
     if input.len() != HEADER + FLOAT * flows + FLOAT * contents + states {
-        return MonthAnswer::Refused(NO_MONTH, 0);
+        return refused(refusals::NO_MONTH, 0);
     }
     lent(input, flows, contents)
+}
+
+fn refused(number: u8, place: usize) -> MonthAnswer
+    ensures { λ r. ⌜ r ≡ Refused (refusal number place) ⌝ }
+{
+    MonthAnswer::Refused(Refusal { number, place })
 }
 
 // The month of an input with this number of flows and of contents; the rest are states.
@@ -57,10 +60,10 @@ fn lent(input: &[u8], flows: usize, contents: usize) -> MonthAnswer
     ensures { λ r. ⌜ r ≡ lentOf (now (input .entry)) flows contents ⌝ }
 {
     if meter_series::MOST_HOURS < flows {
-        return MonthAnswer::Refused(NO_MONTH, 0);
+        return refused(refusals::NO_MONTH, 0);
     }
     if meter_series::MOST_HOURS < contents {
-        return MonthAnswer::Refused(NO_MONTH, 0);
+        return refused(refusals::NO_MONTH, 0);
     }
     let contents_at = HEADER + FLOAT * flows;
     let states_at = contents_at + FLOAT * contents;
@@ -70,7 +73,7 @@ fn lent(input: &[u8], flows: usize, contents: usize) -> MonthAnswer
         &all_flows[..flows],
         &all_contents[..contents],
         &input[states_at..],
-        record_table::number(input, EFFICIENCY_AT, HALF) as u32,
+        number_bytes::number(input, EFFICIENCY_AT, HALF) as u32,
     )
 }
 

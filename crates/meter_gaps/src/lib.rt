@@ -6,7 +6,7 @@ ghost use mathlib.Core.Bool.{false};
 ghost use lib.Dec.{eqb};
 ghost use Prim.Native.Nat.{ℕ, _*_, _≤_, _<_};
 ghost use lib.ListN.{length};
-ghost use Rattle.meter_series.specs.Series.{isRecorded, series, amount, mostAmount, mostHours, Small};
+ghost use Rattle.meter_series.specs.Series.{isRecorded, series, amount, mostAmount, mostHours, AtMost};
 ghost use Rattle.meter_gaps.specs.Filling.{neighbours, plus, totalOf, meanOf, endOf, averageOf, fillOf, fillFrom, orElse, startOf, filled};
 use meter_series::MOST_HOURS;
 use meter_series::Value;
@@ -23,7 +23,7 @@ const AVERAGED: u64 = 8;
 // The series after filling.
 pub fn fill(hours: &[u64]) -> [u64; MOST_HOURS]
     requires { ⌜ length (now hours) ≤ mostHours ⌝ }
-    requires { ⌜ Small (now hours) ⌝ }
+    requires { ⌜ AtMost mostAmount (now hours) ⌝ }
     ensures { λ r. ⌜ length r ≡ mostHours ⌝ }
     ensures { λ r. ⌜ ((h : ℕ) → series r h ≡ filled (series (now (hours .entry))) (length (now (hours .entry))) h) ⌝ }
 {
@@ -32,7 +32,7 @@ pub fn fill(hours: &[u64]) -> [u64; MOST_HOURS]
     for hour in 0..hours.len() {
         let value = meter_series::at(hours, hour);
         filling = filling_at(hours, hour, value, filling);
-        out[hour] = meter_series::slot(or_else(value, filling));
+        out[hour] = meter_series::cell(or_else(value, filling));
     }
     out
 }
@@ -49,10 +49,12 @@ fn or_else(value: Value, filling: Value) -> Value
 // What fills the run that a missing hour stands in: it is worked out at the run's first hour, and kept for the others.
 fn filling_at(hours: &[u64], hour: usize, value: Value, filling: Value) -> Value
     requires { ⌜ (hour < length (now hours)) × (length (now hours) ≤ mostHours) ⌝ }
-    requires { ⌜ Small (now hours) ⌝ }
+    requires { ⌜ AtMost mostAmount (now hours) ⌝ }
     requires { ⌜ value ≡ series (now hours) hour ⌝ }
-    requires { ⌜ (startOf (series (now hours)) hour < hour → filling ≡ fillFrom (series (now hours)) (length (now hours)) (startOf (series (now hours)) hour)) ⌝ }
-    ensures { λ r. ⌜ (isRecorded value ≡ false → r ≡ fillFrom (series (now (hours .entry))) (length (now (hours .entry))) (startOf (series (now (hours .entry))) hour)) ⌝ }
+    requires { ⌜ (startOf (series (now hours)) hour < hour →
+        filling ≡ fillFrom (series (now hours)) (length (now hours)) (startOf (series (now hours)) hour)) ⌝ }
+    ensures { λ r. ⌜ (isRecorded value ≡ false →
+        r ≡ fillFrom (series (now (hours .entry))) (length (now (hours .entry))) (startOf (series (now (hours .entry))) hour)) ⌝ }
 {
     if meter_series::is_recorded(value) {
         return filling;
@@ -76,7 +78,7 @@ fn is_start(hours: &[u64], hour: usize) -> bool
 // What fills the run that starts at an hour; nothing where that hour is recorded.
 fn fill_from(hours: &[u64], start: usize) -> Value
     requires { ⌜ (start ≤ length (now hours)) × (length (now hours) ≤ mostHours) ⌝ }
-    requires { ⌜ Small (now hours) ⌝ }
+    requires { ⌜ AtMost mostAmount (now hours) ⌝ }
     ensures { λ r. ⌜ r ≡ fillFrom (series (now (hours .entry))) (length (now (hours .entry))) start ⌝ }
 {
     fill_of(hours, start, end_from(hours, start))
@@ -100,7 +102,7 @@ fn end_from(hours: &[u64], start: usize) -> usize
 // What fills the run from `start` up to `end`.
 fn fill_of(hours: &[u64], start: usize, end: usize) -> Value
     requires { ⌜ (start ≤ end) × (end ≤ mostHours) ⌝ }
-    requires { ⌜ Small (now hours) ⌝ }
+    requires { ⌜ AtMost mostAmount (now hours) ⌝ }
     ensures { λ r. ⌜ r ≡ fillOf (series (now (hours .entry))) (length (now (hours .entry))) start end ⌝ }
 {
     let length = end - start;
@@ -116,7 +118,7 @@ fn fill_of(hours: &[u64], start: usize, end: usize) -> Value
 // The average of the neighbours of a run, where each is an hour of the month and recorded.
 fn average(hours: &[u64], start: usize, end: usize) -> Value
     requires { ⌜ (start ≤ mostHours) × (end ≤ mostHours) ⌝ }
-    requires { ⌜ Small (now hours) ⌝ }
+    requires { ⌜ AtMost mostAmount (now hours) ⌝ }
     ensures { λ r. ⌜ r ≡ averageOf (series (now (hours .entry))) (length (now (hours .entry))) start end ⌝ }
 {
     if start < NEIGHBOURS {
@@ -133,7 +135,7 @@ fn average(hours: &[u64], start: usize, end: usize) -> Value
 // The sum of the four hours from one on, where each is recorded.
 fn total(hours: &[u64], from: usize) -> Value
     requires { ⌜ from ≤ mostHours ⌝ }
-    requires { ⌜ Small (now hours) ⌝ }
+    requires { ⌜ AtMost mostAmount (now hours) ⌝ }
     ensures { λ r. ⌜ r ≡ totalOf (series (now (hours .entry))) from neighbours ⌝ }
 {
     let mut sum_of = Value::Recorded(0);

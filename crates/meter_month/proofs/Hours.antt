@@ -9,6 +9,7 @@ use borrow.Author.Tests.{ne-eqb, eqb-true}
 use lib.Dec.{eqb}
 use Rattle.meter_series.specs.Series.{mostHours}
 use Rattle.meter_month.specs.Month.{isMonth, areHours}
+use Rattle.meter_month.specs.Asks.{AsLong}
 
 pub month-yes : (n : ℕ) → (n ≡ 672) ⊎ ((n ≡ 696) ⊎ ((n ≡ 720) ⊎ (n ≡ 744))) → true ≡ isMonth n
 month-yes n (inl e) = rw e
@@ -47,7 +48,7 @@ and-r : (a b : Bool) → (a && b) ≡ true → b ≡ true
 and-r true b e = e
 and-r false b e = absurd (false≢true e)
 
-pub as-long : (f c n : ℕ) → areHours f c n ≡ true → (f ≡ n) × (c ≡ n) × (n ≤ mostHours)
+pub as-long : (f c n : ℕ) → areHours f c n ≡ true → AsLong f c n
 as-long f c n e =
     let both = and-l (eqb f n && eqb c n) (isMonth n) e in (
       eqb-true f n (and-l (eqb f n) (eqb c n) both),

@@ -4,11 +4,12 @@ use mathlib.Core.{Bool.Bool, Bool.not, Bool._&&_, Bool._||_, Bool.cond, List.Lis
 use lib.{Dec.eqb, Dec.ltb, Ieee.Float, ListN.length}
 use Rattle.laws.specs.Counting.{sum, firstFrom}
 use Rattle.units.specs.Grams.{methane}
+use Rattle.refusals.specs.Refusal.{refusal, outOfRange, noMonth, badHour}
 use Rattle.meter_state.specs.State.{stateAt}
 use Rattle.meter_series.specs.declared.Value.{Value}
 use Rattle.meter_gaps.specs.Filling.{filled}
 use Rattle.meter_hour.specs.Hour.{hourAt, isRefused, flowOf, contentOf, hourOf, wholeEfficiency}
-use Rattle.meter_hour.specs.declared.Kind.{Kind, the-variants.CubicMetres}
+use Rattle.meter_hour.specs.declared.{Hour.Hour, Kind.Kind, Kind.the-variants.CubicMetres}
 use Rattle.meter_month.specs.declared.MonthAnswer.{MonthAnswer, the-variants.Destroyed, the-variants.Refused}
 
 -- the sum over n hours, the k-th of which is hour k - 1, with these states, flows and contents as recorded, and flows and contents after filling
@@ -20,10 +21,13 @@ gramsOf kind efficiency state f c flow content n =
 unfoldable pub destroyedOf : Kind → ℕ → (ℕ → ℕ) → (ℕ → Value) → (ℕ → Value) → ℕ → ℕ
 destroyedOf kind efficiency state f c n = gramsOf kind efficiency state f c (filled f n) (filled c n) n
 
+-- what each hour recorded of one of the two, flow or content
+abbrev pub recorded : (Hour → Value) → List Float → List Float → List ℕ → ℕ → Value
+recorded part flows contents states h = part (hourAt flows contents states h)
+
 unfoldable pub meteredOf : List Float → List Float → List ℕ → ℕ → ℕ
 meteredOf flows contents states efficiency =
-    let hour = hourAt flows contents states in
-    destroyedOf CubicMetres efficiency (stateAt states) (λ h. flowOf (hour h)) (λ h. contentOf (hour h)) (length states)
+    destroyedOf CubicMetres efficiency (stateAt states) (recorded flowOf flows contents states) (recorded contentOf flows contents states) (length states)
 
 -- a month has 28 to 31 days
 abbrev pub isMonth : ℕ → Bool
@@ -37,10 +41,10 @@ areHours flows contents states = eqb flows states && eqb contents states && isMo
 abbrev pub firstRefused : List Float → List Float → List ℕ → ℕ
 firstRefused flows contents states = firstFrom 0 (length states) (λ h. isRefused (hourAt flows contents states h))
 
--- a meter month checks 10, 4, 11 in this order; otherwise it states the grams destroyed
+-- what a meter month is refused for, in this order (`refusals/Refusal.monthOrder`); otherwise it states the grams destroyed
 unfoldable pub monthOf : List Float → List Float → List ℕ → ℕ → MonthAnswer
 monthOf flows contents states efficiency =
-    cond (not (areHours (length flows) (length contents) (length states))) (Refused 10 0)
-    (cond (ltb wholeEfficiency efficiency) (Refused 4 0)
-    (cond (ltb (firstRefused flows contents states) (length states)) (Refused 11 (firstRefused flows contents states))
+    cond (not (areHours (length flows) (length contents) (length states))) (Refused (refusal noMonth 0))
+    (cond (ltb wholeEfficiency efficiency) (Refused (refusal outOfRange 0))
+    (cond (ltb (firstRefused flows contents states) (length states)) (Refused (refusal badHour (firstRefused flows contents states)))
     (Destroyed (methane (meteredOf flows contents states efficiency)))))

@@ -1,48 +1,42 @@
 // The month of one biogas meter (01, "The meter month"). Each hour is read once, its series are looked at a fixed number of times, and nothing lent is written.
 ghost use mathlib.Core.Path.{_≡_};
-ghost use Prim.Native.Nat.{ℕ, _≤_, _<_};
+ghost use Prim.Native.Nat.{_≤_};
 ghost use lib.ListN.{length};
+ghost use Rattle.refusals.specs.Refusal.{refusal};
 ghost use Rattle.units.specs.Grams.{methane};
 ghost use Rattle.meter_state.specs.State.{stateAt};
-ghost use Rattle.meter_series.specs.Series.{series, amount, mostHours};
-ghost use Rattle.meter_hour.specs.Hour.{hourAt, flowOf, contentOf, wholeEfficiency};
+ghost use Rattle.meter_series.specs.Series.{series, AtMost};
+ghost use Rattle.meter_hour.specs.Hour.{flowOf, contentOf, wholeEfficiency};
 ghost use Rattle.meter_hour.specs.Room.{mostFlow, mostContent};
-ghost use Rattle.meter_month.specs.Month.{gramsOf, destroyedOf, isMonth, areHours, firstRefused, monthOf};
+ghost use Rattle.meter_month.specs.declared.MonthAnswer.the-variants.{Refused};
+ghost use Rattle.meter_month.specs.Month.{gramsOf, destroyedOf, isMonth, areHours, firstRefused, recorded, monthOf};
+ghost use Rattle.meter_month.specs.Asks.{AsLong, Holds};
 use meter_hour::Hour;
 use meter_hour::Kind;
+use refusals::Refusal;
 use units::Methane;
 
 pub enum MonthAnswer {
     Destroyed(Methane),
-    // A refusal's number, and its place.
-    Refused(u8, usize),
+    Refused(Refusal),
 }
-
-// Refused: an efficiency above the whole.
-const OUT_OF_RANGE: u8 = 4;
-
-// Refused: no month's hours, or lists that differ in length.
-const NO_MONTH: u8 = 10;
-
-// Refused: an hour whose state or reading is bad.
-const BAD_HOUR: u8 = 11;
 
 // The month of a meter in cubic metres.
 pub fn month(flows: &[f32], contents: &[f32], states: &[u8], efficiency: u32) -> MonthAnswer
     ensures { λ r. ⌜ r ≡ monthOf (now (flows .entry)) (now (contents .entry)) (now (states .entry)) efficiency ⌝ }
 {
     if !are_hours(flows.len(), contents.len(), states.len()) {
-        return MonthAnswer::Refused(NO_MONTH, 0);
+        return refused(refusals::NO_MONTH, 0);
     }
     if meter_hour::WHOLE_EFFICIENCY < efficiency {
-        return MonthAnswer::Refused(OUT_OF_RANGE, 0);
+        return refused(refusals::OUT_OF_RANGE, 0);
     }
     let hours = states.len();
     let mut litres = [0u64; meter_series::MOST_HOURS];
     let mut hundredths = [0u64; meter_series::MOST_HOURS];
     let hour = record_hours(flows, contents, states, &mut litres, &mut hundredths);
     if hour < hours {
-        return MonthAnswer::Refused(BAD_HOUR, hour);
+        return refused(refusals::BAD_HOUR, hour);
     }
     MonthAnswer::Destroyed(destroyed(
         Kind::CubicMetres,
@@ -51,6 +45,12 @@ pub fn month(flows: &[f32], contents: &[f32], states: &[u8], efficiency: u32) ->
         &litres[..hours],
         &hundredths[..hours],
     ))
+}
+
+fn refused(number: u8, place: usize) -> MonthAnswer
+    ensures { λ r. ⌜ r ≡ Refused (refusal number place) ⌝ }
+{
+    MonthAnswer::Refused(Refusal { number, place })
 }
 
 // Whether each hour has its three values, and the hours are those of a month.
@@ -84,11 +84,11 @@ fn record_hours(
     litres: &mut [u64],
     hundredths: &mut [u64],
 ) -> usize
-    requires { ⌜ (length (now flows) ≡ length (now states)) × (length (now contents) ≡ length (now states)) ⌝ }
+    requires { ⌜ AsLong (length (now flows)) (length (now contents)) (length (now states)) ⌝ }
     requires { ⌜ (length (now states) ≤ length (now litres)) × (length (now states) ≤ length (now hundredths)) ⌝ }
     ensures { λ r. ⌜ r ≡ firstRefused (now (flows .entry)) (now (contents .entry)) (now (states .entry)) ⌝ }
-    ensures { λ r. ⌜ ((h : ℕ) → h < r → series (now (litres .exit)) h ≡ flowOf (hourAt (now (flows .entry)) (now (contents .entry)) (now (states .entry)) h)) ⌝ }
-    ensures { λ r. ⌜ ((h : ℕ) → h < r → series (now (hundredths .exit)) h ≡ contentOf (hourAt (now (flows .entry)) (now (contents .entry)) (now (states .entry)) h)) ⌝ }
+    ensures { λ r. ⌜ Holds (now (litres .exit)) r (recorded flowOf (now (flows .entry)) (now (contents .entry)) (now (states .entry))) ⌝ }
+    ensures { λ r. ⌜ Holds (now (hundredths .exit)) r (recorded contentOf (now (flows .entry)) (now (contents .entry)) (now (states .entry))) ⌝ }
 {
     let mut hour = 0;
     while hour < states.len() {
@@ -96,8 +96,8 @@ fn record_hours(
         let Hour::Taken(flow, content) = recorded else {
             return hour;
         };
-        litres[hour] = meter_series::slot(flow);
-        hundredths[hour] = meter_series::slot(content);
+        litres[hour] = meter_series::cell(flow);
+        hundredths[hour] = meter_series::cell(content);
         hour += 1;
     }
     hour
@@ -105,10 +105,10 @@ fn record_hours(
 
 // Grams destroyed in a month, by what each hour recorded: the gaps are filled, and the hours summed.
 fn destroyed(kind: Kind, efficiency: u32, states: &[u8], flows: &[u64], contents: &[u64]) -> Methane
-    requires { ⌜ (length (now flows) ≡ length (now states)) × (length (now contents) ≡ length (now states)) × (length (now states) ≤ mostHours) × (efficiency ≤ wholeEfficiency) ⌝ }
-    requires { ⌜ ((h : ℕ) → amount (series (now flows) h) ≤ mostFlow kind) ⌝ }
-    requires { ⌜ ((h : ℕ) → amount (series (now contents) h) ≤ mostContent) ⌝ }
-    ensures { λ r. ⌜ r ≡ methane (destroyedOf kind efficiency (stateAt (now (states .entry))) (series (now (flows .entry))) (series (now (contents .entry))) (length (now (states .entry)))) ⌝ }
+    requires { ⌜ AsLong (length (now flows)) (length (now contents)) (length (now states)) × (efficiency ≤ wholeEfficiency) ⌝ }
+    requires { ⌜ AtMost (mostFlow kind) (now flows) × AtMost mostContent (now contents) ⌝ }
+    ensures { λ r. ⌜ r ≡ methane (destroyedOf kind efficiency (stateAt (now (states .entry)))
+        (series (now (flows .entry))) (series (now (contents .entry))) (length (now (states .entry)))) ⌝ }
 {
     let filled_flows = meter_gaps::fill(flows);
     let filled_contents = meter_gaps::fill(contents);
@@ -133,11 +133,12 @@ fn sum(
     filled_flows: &[u64],
     filled_contents: &[u64],
 ) -> Methane
-    requires { ⌜ (length (now flows) ≡ length (now states)) × (length (now contents) ≡ length (now states)) × (length (now states) ≤ mostHours) × (efficiency ≤ wholeEfficiency) ⌝ }
+    requires { ⌜ AsLong (length (now flows)) (length (now contents)) (length (now states)) × (efficiency ≤ wholeEfficiency) ⌝ }
     requires { ⌜ (length (now states) ≤ length (now «filled_flows»)) × (length (now states) ≤ length (now «filled_contents»)) ⌝ }
-    requires { ⌜ ((h : ℕ) → amount (series (now «filled_flows») h) ≤ mostFlow kind) ⌝ }
-    requires { ⌜ ((h : ℕ) → amount (series (now «filled_contents») h) ≤ mostContent) ⌝ }
-    ensures { λ r. ⌜ r ≡ methane (gramsOf kind efficiency (stateAt (now (states .entry))) (series (now (flows .entry))) (series (now (contents .entry))) (series (now («filled_flows» .entry))) (series (now («filled_contents» .entry))) (length (now (states .entry)))) ⌝ }
+    requires { ⌜ AtMost (mostFlow kind) (now «filled_flows») × AtMost mostContent (now «filled_contents») ⌝ }
+    ensures { λ r. ⌜ r ≡ methane (gramsOf kind efficiency (stateAt (now (states .entry)))
+        (series (now (flows .entry))) (series (now (contents .entry)))
+        (series (now («filled_flows» .entry))) (series (now («filled_contents» .entry))) (length (now (states .entry)))) ⌝ }
 {
     let mut total = Methane::of_grams(0);
     for hour in 0..states.len() {

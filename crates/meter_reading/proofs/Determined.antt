@@ -2,13 +2,9 @@
 use Rattle.laws.proofs.Determined.{OneAnswer, one}
 use Rattle.meter_reading.proofs.litres.Reads as Litres
 use Rattle.meter_reading.proofs.hundredths.Reads as Hundredths
-use Rattle.meter_reading.proofs.scaled.Reads as Scaled
 
 pub litres-one : OneAnswer Litres.Learnt
 litres-one κ a x y s t = one
 
 pub hundredths-one : OneAnswer Hundredths.Learnt
 hundredths-one κ a x y s t = one
-
-pub scaled-one : OneAnswer Scaled.Learnt
-scaled-one κ a x y s t = one

@@ -38,7 +38,7 @@ pub fn hundredths(content: f32) -> Measure
 
 // `factor` times a number from 0 to `most`, by its exact value, rounded down. 24 binary digits times 28 stay below the 53 of an f64, so
 // that the product is exact.
-pub fn scaled(x: f32, factor: u32, most: u32) -> Measure
+fn scaled(x: f32, factor: u32, most: u32) -> Measure
     requires { ⌜ factor < 2 ^ 28 ⌝ }
     requires { ⌜ most ≤ 2 ^ 24 ⌝ }
     ensures { λ r. ⌜ r ≡ scaledOf factor most x ⌝ }

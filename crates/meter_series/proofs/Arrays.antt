@@ -1,4 +1,4 @@
--- A series as an array holds it: a slot that is read, an array of zeros, an hour more, and two series that agree.
+-- A series as an array holds it: a cell that is read, an array of zeros, an hour more, and two series that agree.
 -- Assumes nothing.
 use Prim.Native.Nat.{ℕ, zero, suc, _+_, _-_, _≤_, _<_}
 use mathlib.Core.Path.{_≡_, refl, ap, _∙_}
@@ -14,26 +14,26 @@ use Rattle.meter_series.specs.Series.{valueOf, series, amount}
 use Rattle.meter_series.specs.declared.Value.{Value}
 use Rattle.meter_series.specs.declared.Value.the-variants.{Recorded, Missing}
 
--- a slot that is read
-pub slot-read : (x : ℕ) → (x ≡ 0 → ⊥) → Recorded (x - 1) ≡ valueOf x
-slot-read zero h = absurd (h refl)
-slot-read (suc x) h = ap Recorded (omega arith)
+-- a cell that is read
+pub cell-read : (x : ℕ) → (x ≡ 0 → ⊥) → Recorded (x - 1) ≡ valueOf x
+cell-read zero h = absurd (h refl)
+cell-read (suc x) h = ap Recorded (omega arith)
 
 pub amount-of : (v : Value) (n : ℕ) → v ≡ Recorded n → n ≤ amount v
 unfolding amount
 amount-of v n e = rw e (omega arith)
 
-module _ (l : List ℕ) (i slot : ℕ) where
+module _ (l : List ℕ) (i cell : ℕ) where
   pub stored :
-      (P : ℕ → Value) → i < length l → ((k : ℕ) → k < i → series l k ≡ P k) → valueOf slot ≡ P i →
-      (k : ℕ) → k < i + 1 → series (set l i slot) k ≡ P k
+      (P : ℕ → Value) → i < length l → ((k : ℕ) → k < i → series l k ≡ P k) → valueOf cell ≡ P i →
+      (k : ℕ) → k < i + 1 → series (set l i cell) k ≡ P k
   stored P b p q =
-      below-more (λ (k : ℕ). series (set l i slot) k ≡ P k) i
-      (λ k h. ap valueOf (getD-set-other l i k slot 0 (λ e. omega arith)) ∙ p k h)
-      (ap valueOf (getD-set-same l i slot 0 b) ∙ q)
+      below-more (λ (k : ℕ). series (set l i cell) k ≡ P k) i
+      (λ k h. ap valueOf (getD-set-other l i k cell 0 (λ e. omega arith)) ∙ p k h)
+      (ap valueOf (getD-set-same l i cell 0 b) ∙ q)
 
-  pub later : ((k : ℕ) → i ≤ k → series l k ≡ Missing) → (k : ℕ) → i + 1 ≤ k → series (set l i slot) k ≡ Missing
-  later p k h = ap valueOf (getD-set-other l i k slot 0 (λ e. omega arith)) ∙ p k (omega arith)
+  pub later : ((k : ℕ) → i ≤ k → series l k ≡ Missing) → (k : ℕ) → i + 1 ≤ k → series (set l i cell) k ≡ Missing
+  later p k h = ap valueOf (getD-set-other l i k cell 0 (λ e. omega arith)) ∙ p k (omega arith)
 
 zeros : (n h : ℕ) → getD {A = ℕ} (replicate n 0) h 0 ≡ 0
 zeros zero h = refl

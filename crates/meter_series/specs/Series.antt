@@ -25,9 +25,10 @@ amount Missing = 0
 abbrev pub mostHours : ℕ
 mostHours = 744
 
--- what the code asks of a series: that eight of its numbers fit 64 bits
+-- eight such numbers fit 64 bits together
 abbrev pub mostAmount : ℕ
 mostAmount = 2 ^ 60
 
-abbrev pub Small : List ℕ → Type 0
-Small hours = (h : ℕ) → amount (series hours h) ≤ mostAmount
+-- what the code asks of a series: that none of its numbers is above some bound
+abbrev pub AtMost : ℕ → List ℕ → Type 0
+AtMost most hours = (h : ℕ) → amount (series hours h) ≤ most

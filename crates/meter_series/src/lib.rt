@@ -21,18 +21,18 @@ pub fn is_recorded(value: Value) -> bool
 }
 
 // A series stands in an array: 0 for nothing, and n + 1 for n, so that an array of zeros is the series that has nothing.
-pub fn read(slot: u64) -> Value
-    ensures { λ r. ⌜ r ≡ valueOf slot ⌝ }
+pub fn read(cell: u64) -> Value
+    ensures { λ r. ⌜ r ≡ valueOf cell ⌝ }
 {
-    if slot == 0 {
+    if cell == 0 {
         Value::Missing
     } else {
-        Value::Recorded(slot - 1)
+        Value::Recorded(cell - 1)
     }
 }
 
 // The number that stands for a value in the array: what `read` reads as it.
-pub fn slot(value: Value) -> u64
+pub fn cell(value: Value) -> u64
     requires { ⌜ amount value ≤ mostAmount ⌝ }
     ensures { λ r. ⌜ valueOf r ≡ value ⌝ }
 {

@@ -1,6 +1,6 @@
 // One meter month from standard input, to one line on standard output: `destroyed N`, or `refused N at P`.
 //
-// The input is read until it ends, or until it is longer than the longest month: what would follow changes nothing (`proofs/Long.antt` of `format`). A read
+// The input is read until it ends, or until it is longer than the longest month: what would follow changes nothing (`proofs/Long.antt` of `meter_bytes`). A read
 // that fails is not taken for the input's end: a line on standard error says so, and no figure is printed.
 ghost use Prim.Native.Nat.{_<_};
 ghost use lib.ListN.{length};
@@ -11,7 +11,7 @@ use libc::STDOUT_FILENO;
 use meter_month::MonthAnswer;
 use program_input::Got;
 
-mod line;
+mod text;
 
 // One byte more than the longest month has, so that a longer input shows.
 const BUFFER: usize = meter_bytes::LONGEST + 1;
@@ -62,8 +62,8 @@ fn read_input(buffer: &mut [u8]) -> Got
 }
 
 fn print(answer: MonthAnswer) {
-    let mut page = [0u8; line::LINE_BYTES];
-    let end = line::line(answer, &mut page);
+    let mut page = [0u8; text::TEXT_BYTES];
+    let end = text::lay_answer(answer, &mut page);
     if !io::write_all(STDOUT_FILENO, &page[..end]) {
         os::fail(b"standard output");
     }

@@ -7,7 +7,6 @@ use Rattle.print_page.specs.Page.{Lays}
 use Rattle.print_page.proofs.lay_figure.Reads as LayFigure
 use Rattle.print_page.proofs.lay_word.Reads as LayWord
 use Rattle.print_page.proofs.lay_signed.Reads as LaySigned
-use Rattle.print_page.proofs.lay_decimal.Reads as LayDecimal
 
 -- what is laid, and where, decides the page afterwards and the place after it
 pub lays-one :
@@ -23,6 +22,3 @@ lay-word-one κ a x y s t = lays-one
 
 pub lay-signed-one : OneOutcome LaySigned.Learnt (λ κ s. s .0 .now)
 lay-signed-one κ a x y s t = lays-one
-
-pub lay-decimal-one : OneOutcome LayDecimal.Learnt (λ κ s. s .0 .now)
-lay-decimal-one κ a x y s t = lays-one

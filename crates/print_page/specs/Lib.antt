@@ -1,3 +1,3 @@
 pub mod Number
 pub mod Page
-pub mod Line
+pub mod Text

@@ -53,7 +53,7 @@ fn size(number: i64) -> u64
 }
 
 // A number in decimal. Its digits are laid as they are defined: those of a tenth of it, and then its last.
-pub fn lay_decimal(page: &mut [u8], at: usize, number: u64) -> usize
+fn lay_decimal(page: &mut [u8], at: usize, number: u64) -> usize
     requires { ⌜ at + length (decimal number) ≤ length (now page) ⌝ }
     ensures { λ r. ⌜ Lays (now (page .entry)) at (decimal number) r (now (page .exit)) ⌝ }
 {

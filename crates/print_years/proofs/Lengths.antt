@@ -2,18 +2,19 @@
 use Prim.Native.Nat.{ℕ, _^_, _≤_, _<_}
 use native.Mathlib.Omega.{arith}
 use lib.ListN.{length}
+use Rattle.refusals.specs.declared.Refusal.{Refusal}
 use Rattle.year.specs.declared.Figures.{Figures}
 use mir.Syntax.{w64}
 use mir.Val.{SFits}
-use Rattle.print_refusal.specs.Line.{refusalLine}
+use Rattle.print_refusal.specs.Text.{refusalText}
 use Rattle.print_page.proofs.Lengths.{wide, wide-signed}
 use Rattle.print_refusal.proofs.Lengths.{refusal-most}
-use Rattle.print_year.specs.Lines.{yearLines}
+use Rattle.print_year.specs.Text.{yearText}
 use Rattle.print_year.proofs.Lengths.{year-length, solids-length, grams-length, tonnes-length, lines-length}
 use Rattle.print_years.specs.Page.{yearBytes}
 
-pub refusal-fits : (number place : ℕ) → number < 2 ^ 8 → place < 2 ^ 64 → length (refusalLine number place) ≤ yearBytes
-refusal-fits number place a b = omega (arith, refusal-most number place a b)
+pub refusal-fits : (refusal : Refusal) → refusal .number < 2 ^ 8 → refusal .place < 2 ^ 64 → length (refusalText refusal) ≤ yearBytes
+refusal-fits refusal number place = omega (arith, refusal-most refusal number place)
 
 -- the figures as code holds them
 pub record Held (f : Figures) : Type 0 where
@@ -27,7 +28,7 @@ pub record Held (f : Figures) : Type 0 where
   pub net : SFits w64 (f .net)
   pub credited : f .credited < 2 ^ 64
 
-pub year-fits : (year : ℕ) (f : Figures) → year < 2 ^ 64 → Held f → length (yearLines year f) ≤ yearBytes
+pub year-fits : (year : ℕ) (f : Figures) → year < 2 ^ 64 → Held f → length (yearText year f) ≤ yearBytes
 year-fits year f y h =
     omega (
       arith,

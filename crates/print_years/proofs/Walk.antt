@@ -4,16 +4,17 @@ use mathlib.Core.List.{List, [], _++_, append-assoc, append-nil}
 use Prim.Native.Nat.{ℕ, suc, _+_, _*_, _-_, _≤_, _<_}
 use native.Mathlib.Omega.{arith}
 use lib.ListN.{length}
+use Rattle.refusals.specs.declared.Refusal.{Refusal}
 use Rattle.year_months.specs.Series.{lastYear}
 use Rattle.year.specs.declared.Figures.{Figures}
 use Rattle.year.specs.declared.Answer.{Answer}
 use Rattle.year.specs.declared.Answer.the-variants.{Stated, Refused}
 use Rattle.year.specs.Answer.{answerOf}
 use Rattle.print_page.specs.Page.{Lays}
-use Rattle.print_refusal.specs.Line.{refusalLine}
+use Rattle.print_refusal.specs.Text.{refusalText}
 use Rattle.print_page.proofs.Laying.{joined, laid-length, laid-none}
-use Rattle.print_year.specs.Lines.{yearLines}
-use Rattle.print_years.specs.Lines.{answerLines, yearsFrom, printed}
+use Rattle.print_year.specs.Text.{yearText}
+use Rattle.print_years.specs.Text.{answerText, yearsFrom, printed}
 use Rattle.print_years.specs.Page.{yearBytes, pageBytes}
 
 -- the lines of a year and of those after it
@@ -37,36 +38,36 @@ pub size : {book start page : List ℕ} {year at : ℕ} → Walked book start ye
 size {book} {start} {page} {year} {at} w h =
     ap length (w .lays .page) ∙ laid-length start 0 (w .text) (omega (arith, w .room, w .last, w .lays .ends))
 
-one-year : (book : List ℕ) (year : ℕ) → year ≤ lastYear → from book year ≡ answerLines year (answerOf book year) (from book (year + 1))
+one-year : (book : List ℕ) (year : ℕ) → year ≤ lastYear → from book year ≡ answerText year (answerOf book year) (from book (year + 1))
 unfolding from yearsFrom
 one-year book year h = let e : suc lastYear - year ≡ suc (suc lastYear - (year + 1)) = omega arith in ap (yearsFrom book year) e
 
 module _ {book start page : List ℕ} {year at : ℕ} (w : Walked book start year at page) (h : year ≤ lastYear) {answer : Answer} (e : answer ≡ answerOf book year) where
-  answered : printed book ≡ w .text ++ answerLines year answer (from book (year + 1))
-  answered = w .rest ∙ ap (λ (t : List ℕ). w .text ++ t) (one-year book year h) ∙ ap (λ (a : Answer). w .text ++ answerLines year a (from book (year + 1))) (sym e)
+  answered : printed book ≡ w .text ++ answerText year answer (from book (year + 1))
+  answered = w .rest ∙ ap (λ (t : List ℕ). w .text ++ t) (one-year book year h) ∙ ap (λ (a : Answer). w .text ++ answerText year a (from book (year + 1))) (sym e)
 
   pub stated :
-      {f : Figures} {end : ℕ} {after : List ℕ} → answer ≡ Stated f → Lays page at (yearLines year f) end after → length (yearLines year f) ≤ yearBytes →
+      {f : Figures} {end : ℕ} {after : List ℕ} → answer ≡ Stated f → Lays page at (yearText year f) end after → length (yearText year f) ≤ yearBytes →
       Walked book start (year + 1) end after
-  unfolding answerLines
+  unfolding answerText
   stated {f} {end} {after} d x fits =
       record {
         first = omega arith;
         last = omega arith;
         room = omega (arith, w .room, x .ends);
-        text = w .text ++ yearLines year f;
+        text = w .text ++ yearText year f;
         lays = joined (w .lays) x (omega arith);
         rest =
-            answered ∙ ap (λ (a : Answer). w .text ++ answerLines year a (from book (year + 1))) d
-            ∙ sym (append-assoc (w .text) (yearLines year f) (from book (year + 1)));
+            answered ∙ ap (λ (a : Answer). w .text ++ answerText year a (from book (year + 1))) d
+            ∙ sym (append-assoc (w .text) (yearText year f) (from book (year + 1)));
       }
 
   pub refused :
-      {number place end : ℕ} {after : List ℕ} → answer ≡ Refused number place → Lays page at (refusalLine number place) end after →
+      {refusal : Refusal} {end : ℕ} {after : List ℕ} → answer ≡ Refused refusal → Lays page at (refusalText refusal) end after →
       Lays start 0 (printed book) end after
-  unfolding answerLines
-  refused {number} {place} {end} {after} d x =
-      rw (answered ∙ ap (λ (a : Answer). w .text ++ answerLines year a (from book (year + 1))) d) (joined (w .lays) x (omega arith))
+  unfolding answerText
+  refused {refusal} {end} {after} d x =
+      rw (answered ∙ ap (λ (a : Answer). w .text ++ answerText year a (from book (year + 1))) d) (joined (w .lays) x (omega arith))
 
 pub ended : {book start page : List ℕ} {year at : ℕ} → Walked book start year at page → lastYear < year → Lays start 0 (printed book) at page
 unfolding from yearsFrom

@@ -4,7 +4,7 @@ ghost use Prim.Native.Nat.{_≤_};
 ghost use lib.ListN.{length};
 ghost use Rattle.book.specs.Valid.{Valid};
 ghost use Rattle.print_page.specs.Page.{Lays};
-ghost use Rattle.print_years.specs.Lines.{printed};
+ghost use Rattle.print_years.specs.Text.{printed};
 ghost use Rattle.print_years.specs.Page.{pageBytes};
 use year::Answer;
 
@@ -28,8 +28,8 @@ pub fn lay_years(book: &[u8], page: &mut [u8]) -> usize
             Answer::Stated(figures) => {
                 at = print_year::lay_year(page, at, year, figures);
             }
-            Answer::Refused(number, place) => {
-                return print_refusal::lay_refusal(page, at, number, place);
+            Answer::Refused(refusal) => {
+                return print_refusal::lay_refusal(page, at, refusal);
             }
         }
     }

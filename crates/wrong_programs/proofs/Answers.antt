@@ -6,12 +6,13 @@ use mathlib.Core.List.{List}
 use mathlib.Core.Path.{_≡_, refl, sym, ap, _∙_}
 use lib.Ieee.{Float, nan}
 use lib.ListN.{replicate}
+use Rattle.refusals.specs.Refusal.{refusal, alreadyFilled}
 use Rattle.units.specs.Grams.{methane}
-use Rattle.record_table.specs.Number.{numberAt}
+use Rattle.number_bytes.specs.Number.{numberAt}
 use Rattle.record_table.specs.Slot.{count, index, total, slotOf}
-use Rattle.record_fields.specs.Entry.{inRange, nonzeroAt}
+use Rattle.record_fields.specs.Entry.{inRange, outsideAt, nonzeroAt}
 use Rattle.record_judge.specs.Record.{nonzeroIn, outsideIn, keyIn, rowIn, rowOf, keyOf, verdict, judgedAs, judged}
-use Rattle.record_judge.specs.declared.Judged.the-variants.{Fill}
+use Rattle.record_judge.specs.declared.Judged.the-variants.{Put}
 use Rattle.record_judge.proofs.Taken.{taken}
 use Rattle.record_judge.proofs.Keys.{slot-below}
 use Rattle.book.specs.Book as Book
@@ -27,19 +28,19 @@ use Rattle.meter_month.specs.declared.MonthAnswer.the-variants.{Destroyed}
 use Rattle.year.specs.Answer as Year
 use Rattle.year.specs.Figures.{figuresOf}
 use Rattle.year.specs.declared.Answer.the-variants.{Stated}
-use Rattle.year.proofs.Answers.{complete-is, stated-is}
+use Rattle.year.proofs.Answers.{found-is, stated-is}
 use Rattle.wrong_programs.proofs.Promise.{Answered}
 use Rattle.wrong_programs.proofs.Records.{yearRecord}
 
-year-judged : judged yearRecord ≡ Fill 0
-unfolding judged judgedAs verdict rowOf rowIn keyOf keyIn nonzeroIn nonzeroAt outsideIn inRange numberAt slotOf total index count
+year-judged : judged yearRecord ≡ Put 0
+unfolding judged judgedAs verdict rowOf rowIn keyOf keyIn nonzeroIn nonzeroAt outsideIn outsideAt inRange numberAt slotOf total index count
 year-judged = refl
 
 pub year-taken : Book.answerOf emptyBook yearRecord ≡ Taken
 unfolding Book.answerOf answerBy
 year-taken =
     let h = slot-below yearRecord 0 (taken yearRecord 0 year-judged) in
-    ap (answerBy emptyBook) year-judged ∙ ap (λ (b : Bool). cond b Taken (Refused 5 0)) (empty-free emptyBook 0 (empty-slot 0 h))
+    ap (answerBy emptyBook) year-judged ∙ ap (λ (b : Bool). cond b Taken (Refused (refusal alreadyFilled 0))) (empty-free emptyBook 0 (empty-slot 0 h))
 
 -- 28 days of hours without readings, the device out in each
 abbrev pub hours : ℕ
@@ -57,4 +58,4 @@ month-weighed = refl
 
 pub year-stated : (book : List ℕ) (year : ℕ) → Answered book year → Year.answerOf book year ≡ Stated (figuresOf book year)
 year-stated book year a =
-    sym (complete-is book year (a .period) refl (a .complete) (stated-is book year refl (a .valid) (a .period) (a .shares) refl))
+    sym (stated-is book year refl (a .valid) (a .period) (a .shares) refl ∙ found-is book year (a .period) (a .complete))

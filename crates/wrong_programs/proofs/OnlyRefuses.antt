@@ -24,15 +24,15 @@ use Rattle.wrong_programs.proofs.WorkedYear.{answered}
 -- an answer is a refusal
 abbrev pub NotTaken : Posted → Type 0
 NotTaken Posted.the-variants.Taken = ⊥
-NotTaken (Posted.the-variants.Refused number place) = Unit {0}
+NotTaken (Posted.the-variants.Refused refusal) = Unit {0}
 
 abbrev pub NotWeighed : MonthAnswer → Type 0
 NotWeighed (MonthAnswer.the-variants.Destroyed grams) = ⊥
-NotWeighed (MonthAnswer.the-variants.Refused number place) = Unit {0}
+NotWeighed (MonthAnswer.the-variants.Refused refusal) = Unit {0}
 
 abbrev pub NotStated : Answer → Type 0
 NotStated (Answer.the-variants.Stated figures) = ⊥
-NotStated (Answer.the-variants.Refused number place) = Unit {0}
+NotStated (Answer.the-variants.Refused refusal) = Unit {0}
 
 -- every record posted is refused
 pub refuses-records : (answer : List ℕ → List ℕ → Posted) → ((book r : List ℕ) → Valid book → NotTaken (answer book r)) → KeepsAnswers answer → ⊥

@@ -5,9 +5,9 @@ use mathlib.Core.Path.{_≡_, sym, ap, _∙_}
 use native.Mathlib.Omega.{arith}
 use lib.ListN.{length, getD}
 use Rattle.record_table.specs.Table.{entriesOf}
-use Rattle.record_table.specs.Number.{numberAt}
+use Rattle.number_bytes.specs.Number.{numberAt}
 use Rattle.record_table.specs.Slot.{slotOf}
-use Rattle.record_judge.specs.Record.{rowOf, keyOf}
+use Rattle.record_judge.specs.Record.{rowOf, keyOf, storedOf}
 use Rattle.record_judge.proofs.Taken.{taken}
 use Rattle.book.specs.Book.{recordAt, answerOf, emptyBook}
 use Rattle.book.specs.Valid.{Valid}
@@ -23,20 +23,21 @@ use Rattle.wrong_programs.proofs.Answers.{year-taken}
 
 -- every book is left empty
 pub leaves-empty : (after : List ℕ → List ℕ → List ℕ) → ((book r : List ℕ) → Valid book → after book r ≡ emptyBook) → KeepsBooks after → ⊥
+unfolding storedOf
 leaves-empty after empties keeps =
     let s = taken-fills emptyBook yearRecord (empty-valid .size) year-taken in
     let left = sym (keeps emptyBook yearRecord empty-valid) ∙ empties emptyBook yearRecord empty-valid in
-    let held = sym (s .fills .holds) ∙ ap (λ (b : List ℕ). recordAt b (s .slot)) left ∙ empty-slot (s .slot) (s .fills .below) in
+    let held = sym (s .there .holds) ∙ ap (λ (b : List ℕ). recordAt b (s .slot)) left ∙ empty-slot (s .slot) (s .there .below) in
     let letter : _≡_ {A = ℕ} 89 0 = ap (λ (l : List ℕ). getD l 0 0) held in
     omega arith
 
 module _ (after : List ℕ → List ℕ → List ℕ) (book r : List ℕ) (v : Valid book) (t : answerOf book r ≡ Taken) where
   -- the slot of a record taken holds something else afterwards
-  pub keeps-another : (recordAt (after book r) (slotOf (rowOf r) (keyOf (rowOf r) r)) ≡ r → ⊥) → KeepsBooks after → ⊥
+  pub keeps-another : (recordAt (after book r) (slotOf (rowOf r) (keyOf (rowOf r) r)) ≡ storedOf r → ⊥) → KeepsBooks after → ⊥
   keeps-another other keeps =
       let s = taken-fills book r (v .size) t in
-      let i = taken r (s .slot) (s .fills .judged-so) in
-      other (ap (λ (b : List ℕ). recordAt b (slotOf (rowOf r) (keyOf (rowOf r) r))) (keeps book r v) ∙ ap (recordAt _) (i .slot) ∙ s .fills .holds)
+      let i = taken r (s .slot) (s .judged-so) in
+      other (ap (λ (b : List ℕ). recordAt b (slotOf (rowOf r) (keyOf (rowOf r) r))) (keeps book r v) ∙ ap (recordAt _) (i .slot) ∙ s .there .holds)
 
   -- a field of a record taken is read, under its key, as another value than was posted
   pub keeps-other-values :

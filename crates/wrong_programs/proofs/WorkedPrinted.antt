@@ -9,9 +9,10 @@ use native.Mathlib.Nat.{zero-add, add-zero}
 use lib.Dec.{lit≤}
 use Rattle.laws.specs.Counting.{firstFrom, first}
 use Rattle.laws.proofs.Counting.{found}
+use Rattle.refusals.specs.Refusal.{refusal, lacking}
 use Rattle.calendar.specs.Days.{monthsInYear}
 use Rattle.record_table.specs.Table.{tp}
-use Rattle.record_table.specs.Number.{signedOf}
+use Rattle.number_bytes.specs.Number.{signedOf}
 use Rattle.record_table.specs.Slot.{slotOf}
 use Rattle.book_slots.specs.Field.{numberOf}
 use Rattle.book_slots.specs.Reads.{temperatureOf}
@@ -24,9 +25,9 @@ use Rattle.year_needs.proofs.Lacking.{lacks-temperature, lacks-nothing, lacks-m
 use Rattle.year.specs.Answer.{answerOf}
 use Rattle.year.specs.declared.Answer.{Answer}
 use Rattle.year.specs.declared.Answer.the-variants.{Stated, Refused}
-use Rattle.year.proofs.Answers.{lacking-is}
+use Rattle.year.proofs.Answers.{found-is}
 use Rattle.print_page.specs.Number.{word}
-use Rattle.print_years.specs.Lines.{answerLines, yearsFrom, printed}
+use Rattle.print_years.specs.Text.{answerText, yearsFrom, printed}
 use Rattle.print_years.proofs.Worked.{worked, printed-whole}
 use Rattle.wrong_programs.proofs.Answers.{year-stated}
 use Rattle.wrong_programs.proofs.WorkedBook.{made, Stands, made-stands}
@@ -61,15 +62,15 @@ module _ (book : List ℕ) (destroyed : Bool) (s : Stands book destroyed) where
   earlier-lack-nothing m low high =
       sym (lacks-nothing book secondYear m (ap unmeasured (temperature-is book destroyed s m low (omega arith))) (counted book destroyed s m low (omega arith)) (omega arith))
 
-  lacking : suc monthsInYear ≡ lackingOf book secondYear
+  month-lacking : suc monthsInYear ≡ lackingOf book secondYear
   unfolding lackingOf
-  lacking =
+  month-lacking =
       found (monthsThrough secondYear) (suc monthsInYear) (lacks book secondYear)
       (past 1 monthsInYear monthsInYear (lacks book secondYear) earlier-lack-nothing) (lit≤ tt) month-lacks
 
-  second : answerOf book secondYear ≡ Refused 8 (suc monthsInYear)
+  second : answerOf book secondYear ≡ Refused (refusal lacking (suc monthsInYear))
   second =
-      sym (lacking-is book secondYear (omega arith) (lacks-month book secondYear (ap filled (year-is book destroyed s)) (lined book destroyed s) lacking (lit≤ tt)) refl refl)
+      sym (found-is book secondYear (omega arith) (sym (lacks-month book secondYear (ap filled (year-is book destroyed s)) (lined book destroyed s) month-lacking (lit≤ tt))))
 
 pub worked-printed :
     printed (made true)
@@ -78,8 +79,8 @@ unfolding printed yearsFrom
 worked-printed =
     let first-is = year-stated (made true) firstYear (answered true) ∙ ap Stated worked-figures in
     let second-is = second (made true) true (made-stands true) in
-    ap (λ (a : Answer). answerLines 1 a (answerLines 2 (answerOf (made true) 2) later)) first-is
-    ∙ ap (λ (a : Answer). answerLines 1 (Stated worked) (answerLines 2 a later)) second-is
+    ap (λ (a : Answer). answerText 1 a (answerText 2 (answerOf (made true) 2) later)) first-is
+    ∙ ap (λ (a : Answer). answerText 1 (Stated worked) (answerText 2 a later)) second-is
     ∙ printed-whole later
   where
     later : List ℕ

@@ -13,9 +13,9 @@ use Rattle.laws.proofs.Counting.{sum-same, begins, one-found, none-passes, firs
 use Rattle.laws.proofs.Table.{each, at}
 use Rattle.calendar.specs.Days.{monthsInYear}
 use Rattle.record_table.specs.Table.{lines, categories, yr, ln, hd, tp, dr, pe, mt}
-use Rattle.record_table.specs.Number.{numberAt, signedOf}
+use Rattle.number_bytes.specs.Number.{numberAt, signedOf}
 use Rattle.record_table.specs.Slot.{slotOf}
-use Rattle.book.specs.Book.{recordAt}
+use Rattle.book.specs.Book.{recordAt, nothing}
 use Rattle.book_slots.specs.Field.{numberOf}
 use Rattle.book_slots.specs.Reads.{firstYearOf, firstMonthOf, temperatureOf, projectMethaneOf, baselineCo2Of, projectCo2Of, destroyedOf}
 use Rattle.book_herd.specs.Herd.{systemOf, categoryOf, lineOf, headOf, drainedOf}
@@ -30,7 +30,7 @@ use Rattle.year_needs.specs.declared.Completeness.the-variants.{Complete}
 use Rattle.year_needs.proofs.Lacking.{lacks-project, lacks-none}
 use Rattle.year_shares.specs.Shares.{wholeShare, shareIn, sharesOf, overOf}
 use Rattle.wrong_programs.proofs.Records.{lineRecord, gramsOf, meterRecord}
-use Rattle.wrong_programs.proofs.WorkedBook.{none, Stands}
+use Rattle.wrong_programs.proofs.WorkedBook.{Stands}
 
 abbrev pub theLine : Line
 theLine = record { system = 0; category = 1; solids = 1000; mass = 6000; share = 10000; b0 = 24; conversion = 0 }
@@ -62,7 +62,7 @@ module _ (book : List ℕ) (destroyed : Bool) (s : Stands book destroyed) where
   month-is = seen-held book (slotOf yr []) (s .year) 4 1 (lit≤ tt)
 
   module _ (l : ℕ) where
-    line-by : (b : Bool) → recordAt book (slotOf ln (l ∷ [])) ≡ cond b lineRecord none → lineOf book l ≡ cond b theLine noLine
+    line-by : (b : Bool) → recordAt book (slotOf ln (l ∷ [])) ≡ cond b lineRecord nothing → lineOf book l ≡ cond b theLine noLine
     unfolding numberAt
     line-by true e =
         let number = number-held book (slotOf ln (l ∷ [])) e in
@@ -71,12 +71,12 @@ module _ (book : List ℕ) (destroyed : Bool) (s : Stands book destroyed) where
         let number = number-held book (slotOf ln (l ∷ [])) e in
         rw (number 3 1 (lit≤ tt), number 4 1 (lit≤ tt), number 6 2 (lit≤ tt), number 8 2 (lit≤ tt), number 10 2 (lit≤ tt), number 12 1 (lit≤ tt), number 14 2 (lit≤ tt))
 
-    pub system-by : (b : Bool) → recordAt book (slotOf ln (l ∷ [])) ≡ cond b lineRecord none → systemOf book l ≡ cond b (Value 0) Nothing
+    pub system-by : (b : Bool) → recordAt book (slotOf ln (l ∷ [])) ≡ cond b lineRecord nothing → systemOf book l ≡ cond b (Value 0) Nothing
     unfolding numberAt
     system-by true e = seen-held book (slotOf ln (l ∷ [])) e 3 1 (lit≤ tt)
     system-by false e = seen-held book (slotOf ln (l ∷ [])) e 3 1 (lit≤ tt)
 
-    category-by : (b : Bool) → recordAt book (slotOf ln (l ∷ [])) ≡ cond b lineRecord none → categoryOf book l ≡ cond b (Value 1) Nothing
+    category-by : (b : Bool) → recordAt book (slotOf ln (l ∷ [])) ≡ cond b lineRecord nothing → categoryOf book l ≡ cond b (Value 1) Nothing
     unfolding numberAt
     category-by true e = seen-held book (slotOf ln (l ∷ [])) e 4 1 (lit≤ tt)
     category-by false e = seen-held book (slotOf ln (l ∷ [])) e 4 1 (lit≤ tt)
@@ -113,7 +113,7 @@ module _ (book : List ℕ) (destroyed : Bool) (s : Stands book destroyed) where
     pub first-is : destroyedOf book m 1 ≡ Value (gramsOf destroyed)
     first-is = grams-by destroyed (s .first-device m low high)
 
-    pub none-is : (d : ℕ) → recordAt book (slotOf mt (m ∷ d ∷ [])) ≡ none → destroyedOf book m d ≡ Nothing
+    pub none-is : (d : ℕ) → recordAt book (slotOf mt (m ∷ d ∷ [])) ≡ nothing → destroyedOf book m d ≡ Nothing
     none-is d e = seen-held book (slotOf mt (m ∷ d ∷ [])) e 4 8 (lit≤ tt)
 
     -- month m lacks nothing

@@ -21,7 +21,7 @@ use Rattle.lagoon_month.specs.declared.Month.{Month}
 use Rattle.lagoon_run.specs.declared.Totals.{Totals}
 use Rattle.record_table.specs.Table.{lines, ln}
 use Rattle.record_table.specs.Slot.{slotOf}
-use Rattle.book.specs.Book.{recordAt}
+use Rattle.book.specs.Book.{recordAt, nothing as noRecord}
 use Rattle.book_slots.specs.Reads.{firstMonthOf, projectMethaneOf, baselineCo2Of, projectCo2Of}
 use Rattle.book_herd.specs.Herd.{lineOf, drainedOf}
 use Rattle.book_herd.specs.declared.Line.{Line}
@@ -40,7 +40,7 @@ use Rattle.print_years.proofs.Worked.{worked}
 use Rattle.wrong_programs.proofs.Promise.{Answered}
 use Rattle.wrong_programs.proofs.Records as Records
 use Rattle.wrong_programs.proofs.Records.{lineRecord}
-use Rattle.wrong_programs.proofs.WorkedBook.{none, made, Stands, made-stands}
+use Rattle.wrong_programs.proofs.WorkedBook.{made, Stands, made-stands}
 use Rattle.wrong_programs.proofs.WorkedReads.{theLine, year-is, month-is, system-by, line-is, head-is, temperature-is, drained-is, project-is, first-is, none-is, complete-is, shares-are}
 
 -- a month of the line, what the operator entered for a month, and the year's sums
@@ -127,7 +127,7 @@ module _ (book : List ℕ) (destroyed : Bool) (s : Stands book destroyed) where
       ∙ ap (λ (t : Totals). anaerobicOf t (theLine .b0)) (same-year (monthAt book 1) theMonth firstYear (lit≤ tt) months-are)
       ∙ line-sums
 
-  line-in : (l : ℕ) (b : Bool) → eqb l 1 ≡ b → recordAt book (slotOf ln (l ∷ [])) ≡ cond b lineRecord none → lineIn book firstYear l ≡ cond b theSums nothing
+  line-in : (l : ℕ) (b : Bool) → eqb l 1 ≡ b → recordAt book (slotOf ln (l ∷ [])) ≡ cond b lineRecord noRecord → lineIn book firstYear l ≡ cond b theSums nothing
   unfolding lineIn
   line-in l true e stands = ap (lineIn book firstYear) (eqb-true l 1 e) ∙ first-line
   line-in l false e stands =

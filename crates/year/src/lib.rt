@@ -2,8 +2,11 @@
 ghost use mathlib.Core.Path.{_≡_};
 ghost use Rattle.book.specs.Valid.{Valid};
 ghost use Rattle.year_months.specs.Asks.{InPeriod};
+ghost use Rattle.refusals.specs.Refusal.{refusal};
+ghost use Rattle.year.specs.declared.Answer.the-variants.{Refused};
 ghost use Rattle.year.specs.Figures.{figuresOf};
 ghost use Rattle.year.specs.Answer.{answerOf, wholeYear};
+use refusals::Refusal;
 use units::Co2e;
 use units::Solids;
 use year_needs::Completeness;
@@ -12,13 +15,6 @@ use year_needs::Completeness;
 const FIRST_YEAR: u64 = 1;
 
 const LAST_YEAR: u64 = 10;
-
-// The refusals of a year. A sum that passes 2^63 would be refused 12; no book reaches it.
-const NO_SUCH_YEAR: u8 = 9;
-
-const LACKING: u8 = 8;
-
-const OVER_SHARED: u8 = 7;
 
 // The year's figures: solids over the anaerobic lines, with what is carried past the year's end; carbon
 // dioxide equivalent; and tonnes.
@@ -34,10 +30,9 @@ pub struct Figures {
     pub credited: u64,
 }
 
-// The figures, or a refusal's number and place.
 pub enum Answer {
     Stated(Figures),
-    Refused(u8, u64),
+    Refused(Refusal),
 }
 
 // A year is refused if it is not a year of the crediting period (9), if it lacks a record (8), before anything is
@@ -47,20 +42,26 @@ pub fn year(book: &[u8], year: u64) -> Answer
     ensures { λ r. ⌜ r ≡ answerOf (now (book .entry)) year ⌝ }
 {
     if year < FIRST_YEAR {
-        return Answer::Refused(NO_SUCH_YEAR, 0);
+        return refused(refusals::NO_SUCH_YEAR, 0);
     }
     if LAST_YEAR < year {
-        return Answer::Refused(NO_SUCH_YEAR, 0);
+        return refused(refusals::NO_SUCH_YEAR, 0);
     }
     let counted = year as usize;
     let found = year_needs::complete(book, counted);
     let Completeness::Complete = found else {
-        return Answer::Refused(LACKING, found.place());
+        return refused(refusals::LACKING, found.place());
     };
     whole_year(book, counted)
 }
 
-// A year that has its records.
+fn refused(number: u8, place: usize) -> Answer
+    ensures { λ r. ⌜ r ≡ Refused (refusal number place) ⌝ }
+{
+    Answer::Refused(Refusal { number, place })
+}
+
+// A year that has its records. No sum of it can pass 2^63, so that nothing looks for it.
 fn whole_year(book: &[u8], year: usize) -> Answer
     requires { ⌜ Valid (now book) ⌝ }
     requires { ⌜ InPeriod year ⌝ }
@@ -68,7 +69,7 @@ fn whole_year(book: &[u8], year: usize) -> Answer
 {
     let over = year_shares::over_shared(book);
     if over <= record_table::CATEGORIES {
-        return Answer::Refused(OVER_SHARED, over as u64);
+        return refused(refusals::OVER_SHARED, over);
     }
     Answer::Stated(figures_of(book, year))
 }

@@ -16,10 +16,10 @@ use Rattle.lagoon_month.specs.Month.{enteredOf}
 use Rattle.lagoon_run.specs.Run.{yearOf}
 use Rattle.lagoon_month.specs.declared.Month.{Month}
 use Rattle.lagoon_run.specs.declared.Totals.{Totals}
-use Rattle.record_table.specs.Number.{recordBytes, numberAt, signedOf}
+use Rattle.record_table.specs.Table.{recordBytes, yr, ln, hd, tp, dr}
+use Rattle.number_bytes.specs.Number.{numberAt, signedOf}
 use Rattle.record_table.specs.Slot.{slotOf}
-use Rattle.record_table.specs.Table.{yr, ln, hd, tp, dr}
-use Rattle.book.proofs.Filling.{slot-byte}
+use Rattle.book.proofs.Slot.{slot-byte}
 use Rattle.book.specs.Book.{recordAt, free}
 use Rattle.book_slots.proofs.Within.{number-slot}
 use Rattle.book_slots.specs.Field.{placeOf, bytesOf, seenAt, numberOf, seenOf, filledOf}

@@ -46,7 +46,7 @@ completeOf book year =
     cond (not (filled (firstYearOf book)) || not (anyLine book)) (Lacking 0)
     (cond (leb (lackingOf book year) (monthsThrough year)) (Lacking (lackingOf book year)) Complete)
 
--- the place of refusal 8
+-- the place of what lacks, 0 where nothing does
 abbrev pub placeOf : Completeness → ℕ
 placeOf (Lacking place) = place
 placeOf Complete = 0

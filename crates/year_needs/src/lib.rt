@@ -13,12 +13,12 @@ use book_slots::Warmth;
 // Whether a year has its records, or the place of the refusal.
 pub enum Completeness {
     Complete,
-    Lacking(u64),
+    Lacking(usize),
 }
 
 impl Completeness {
-    // The place of refusal 8: 0 where nothing lacks.
-    pub fn place(self) -> u64
+    // The place of what lacks: 0 where nothing does.
+    pub fn place(self) -> usize
         ensures { λ r. ⌜ r ≡ placeOf self ⌝ }
     {
         match self {
@@ -47,7 +47,7 @@ pub fn complete(book: &[u8], year: usize) -> Completeness
     let lined = lined_categories(book);
     let month = first_lacking(book, year, &lined);
     if month <= year_months::months_through(year) {
-        return Completeness::Lacking(month as u64);
+        return Completeness::Lacking(month);
     }
     Completeness::Complete
 }

@@ -2,15 +2,15 @@
 use Prim.Native.Nat.{ℕ}
 use mathlib.Core.List.{List, []}
 use Rattle.book.specs.Book.{emptyBook}
-use Rattle.print_refusal.specs.Line.{refusalLine}
-use Rattle.print_years.specs.Lines.{printed}
+use Rattle.print_refusal.specs.Text.{refusalText}
+use Rattle.print_years.specs.Text.{printed}
 use Rattle.program_feed.specs.{Input.bookOf, Input.endingOf, declared.Ending.Ending, declared.Ending.the-variants.Ended, declared.Ending.the-variants.Refused, declared.Ending.the-variants.Failed}
 
 -- a posting refusal is the only output; else the years are printed; of an input that could not be read, nothing
-unfoldable pub endingLines : Ending → List ℕ → List ℕ
-endingLines Ended book = printed book
-endingLines (Refused number place) book = refusalLine number place
-endingLines Failed book = []
+unfoldable pub endingText : Ending → List ℕ → List ℕ
+endingText Ended book = printed book
+endingText (Refused refusal) book = refusalText refusal
+endingText Failed book = []
 
 unfoldable pub output : List ℕ → List ℕ
-output input = endingLines (endingOf emptyBook input) (bookOf emptyBook input)
+output input = endingText (endingOf emptyBook input) (bookOf emptyBook input)

@@ -3,7 +3,7 @@
 ghost use mathlib.Core.Path.{_≡_};
 ghost use Prim.Native.Nat.{_≤_};
 ghost use lib.ListN.{length};
-ghost use Rattle.record_table.specs.Number.{recordBytes};
+ghost use Rattle.record_table.specs.Table.{recordBytes};
 ghost use Rattle.book.specs.Book.{bookBytes};
 ghost use Rattle.print_years.specs.Page.{pageBytes};
 ghost use Rattle.years.specs.Input.{Comes};
@@ -42,9 +42,7 @@ fn lay_input(book: &mut [u8], block: &mut [u8], page: &mut [u8]) -> Outcome
     let ending = program_feed::post_input(book, block);
     match ending {
         Ending::Ended => Outcome::Laid(print_years::lay_years(book, page)),
-        Ending::Refused(number, place) => {
-            Outcome::Laid(print_refusal::lay_refusal(page, 0, number, place as u64))
-        }
+        Ending::Refused(refusal) => Outcome::Laid(print_refusal::lay_refusal(page, 0, refusal)),
         Ending::Failed => Outcome::Failed,
     }
 }

@@ -15,17 +15,17 @@ enum-known-methane c = search needs
 grams-requires : tie.Need-grams-requires
 grams-requires c κs = search needs
 
-enum-known-number : tie.Need-enum-known-number
-enum-known-number c = search needs
+enum-known-refusal : tie.Need-enum-known-refusal
+enum-known-refusal c = search needs
 
-cast-t11 : tie.Need-cast-t11
-cast-t11 c = search needs
+cast-t10 : tie.Need-cast-t10
+cast-t10 c = search needs
 
 returns : tie.Need-returns
 returns c = ap (λ (grams : ℕ). record { number = 0; place = 0; destroyed = grams }) (c .grams .ensures) ∙ ap monthOf (sym (c .before .before .methane .given .1) ∙ c .before .before .before .before .month .ensures)
 
 returns-2 : tie.Need-returns-2
-returns-2 c = ap monthOf (sym (c .before .number .given .1) ∙ c .before .before .before .month .ensures)
+returns-2 c = ap monthOf (sym (c .before .before .refusal .given .1) ∙ c .before .before .before .before .month .ensures)
 
 pub cabinet-month-spec : {M : Type 1} → statement M
 cabinet-month-spec =
@@ -34,7 +34,7 @@ cabinet-month-spec =
     month-requires
     enum-known-methane
     grams-requires
-    enum-known-number
-    cast-t11
+    enum-known-refusal
+    cast-t10
     returns
     returns-2)

@@ -11,11 +11,11 @@ post-requires c κs = search needs
 enum-told : tie.Need-enum-told
 enum-told c = search needs
 
-enum-known-number : tie.Need-enum-known-number
-enum-known-number c = search needs
+enum-known-refusal : tie.Need-enum-known-refusal
+enum-known-refusal c = search needs
 
-cast-t9 : tie.Need-cast-t9
-cast-t9 c = search needs
+cast-t8 : tie.Need-cast-t8
+cast-t8 c = search needs
 
 same-length : tie.Need-same-length
 same-length c = search needs
@@ -27,7 +27,9 @@ same-length-2 : tie.Need-same-length-2
 same-length-2 c = search needs
 
 returns-2 : tie.Need-returns-2
-returns-2 c = (ap postedOf (sym (c .before .number .given .1) ∙ c .before .before .before .before .before .post .ensures .0), c .before .before .before .before .before .post .ensures .1)
+returns-2 c =
+    let answered = c .before .before .before .before .before .before .post in
+    (ap postedOf (sym (c .before .before .refusal .given .1) ∙ answered .ensures .0), answered .ensures .1)
 
 pub cabinet-post-spec : {M : Type 1} → statement M
 cabinet-post-spec =
@@ -35,8 +37,8 @@ cabinet-post-spec =
     (tie.spec
     post-requires
     enum-told
-    enum-known-number
-    cast-t9
+    enum-known-refusal
+    cast-t8
     same-length
     returns
     same-length-2

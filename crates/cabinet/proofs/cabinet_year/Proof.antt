@@ -14,8 +14,8 @@ enum-known-figures c = search needs
 stated-requires : tie.Need-stated-requires
 stated-requires c κs = search needs
 
-enum-known-number : tie.Need-enum-known-number
-enum-known-number c = search needs
+enum-known-refusal : tie.Need-enum-known-refusal
+enum-known-refusal c = search needs
 
 refused-requires : tie.Need-refused-requires
 refused-requires c κs = search needs
@@ -24,7 +24,7 @@ returns : tie.Need-returns
 returns c = c .stated .ensures ∙ ap yearOf (sym (c .before .before .figures .given .1) ∙ c .before .before .before .before .year .ensures)
 
 returns-2 : tie.Need-returns-2
-returns-2 c = c .refused .ensures ∙ ap yearOf (sym (c .before .before .number .given .1) ∙ c .before .before .before .before .year .ensures)
+returns-2 c = c .refused .ensures ∙ ap yearOf (sym (c .before .before .refusal .given .1) ∙ c .before .before .before .before .year .ensures)
 
 pub cabinet-year-spec : {M : Type 1} → statement M
 cabinet-year-spec =
@@ -33,7 +33,7 @@ cabinet-year-spec =
     year-requires
     enum-known-figures
     stated-requires
-    enum-known-number
+    enum-known-refusal
     refused-requires
     returns
     returns-2)

@@ -1,6 +1,6 @@
 -- `meter_bytes::lent` meets its contract: more values than a month has hours are no month, and else the two arrays begin with the floats.
 -- Assumes nothing.
-use mathlib.Core.Path.{sym}
+use mathlib.Core.Path.{sym, _∙_}
 use Prim.Native.Nat.{_+_, _*_}
 use native.Mathlib.Omega.{arith}
 use lib.Seq.{length-take-le}
@@ -11,15 +11,21 @@ use borrow.Author.Needs.{needs}
 use Rattle.meter_bytes.proofs.lent.Statement.{statement}
 use Rattle.meter_bytes.proofs.lent.Tie as tie
 
+refused-requires : tie.Need-refused-requires
+refused-requires c κs = search needs
+
 returns : tie.Need-returns
 returns c =
-    let s = c .before .before in
-    sym (lent-none (s .args .input .now) (s .args .flows) (s .args .contents) (λ h. omega (arith, h .0, h .2, c .if1 .taken)))
+    let s = c .before .before .before in
+    c .refused .ensures ∙ sym (lent-none (s .args .input .now) (s .args .flows) (s .args .contents) (λ h. omega (arith, h .0, h .2, c .before .if1 .taken)))
+
+refused-requires-2 : tie.Need-refused-requires-2
+refused-requires-2 c κs = search needs
 
 returns-2 : tie.Need-returns-2
 returns-2 c =
-    let s = c .before .before .before in
-    sym (lent-none (s .args .input .now) (s .args .flows) (s .args .contents) (λ h. omega (arith, h .1, h .2, c .if2 .taken)))
+    let s = c .before .before .before .before in
+    c .refused2 .ensures ∙ sym (lent-none (s .args .input .now) (s .args .flows) (s .args .contents) (λ h. omega (arith, h .1, h .2, c .before .if2 .taken)))
 
 mul-contents-at : tie.Need-mul-contents-at
 mul-contents-at c = search needs
@@ -80,7 +86,9 @@ pub lent-spec : {M : Type 1} → statement M
 lent-spec =
     tie.close
     (tie.spec
+    refused-requires
     returns
+    refused-requires-2
     returns-2
     mul-contents-at
     add-contents-at

@@ -39,8 +39,8 @@ filling-at-requires c κs =
 or-else-requires : tie.Need-or-else-requires Inv-loop μ-loop
 or-else-requires c κs = search needs
 
-slot-requires : tie.Need-slot-requires Inv-loop μ-loop
-slot-requires c κs =
+cell-requires : tie.Need-cell-requires Inv-loop μ-loop
+cell-requires c κs =
     let l = c .before .before .before .before in
     let s = l .before .before in
     let hours = series (s .args .hours .now) in
@@ -79,8 +79,8 @@ loop-again c =
       refl,
       simp length-set (omega arith),
       start-kept hours hour (λ (a : ℕ). f .result ≡ fillFrom hours n a) known,
-      stored (l .loop .out) hour (c .slot .result) (filled hours n) (omega arith) (l .loop .inv .4) (c .slot .ensures ∙ here),
-      later (l .loop .out) hour (c .slot .result) (l .loop .inv .5),
+      stored (l .loop .out) hour (c .cell .result) (filled hours n) (omega arith) (l .loop .inv .4) (c .cell .ensures ∙ here),
+      later (l .loop .out) hour (c .cell .result) (l .loop .inv .5),
     )
 
 returns : tie.Need-returns Inv-loop μ-loop
@@ -105,7 +105,7 @@ fill-spec =
     at-requires
     filling-at-requires
     or-else-requires
-    slot-requires
+    cell-requires
     mul-out
     array-write-out
     add-hour

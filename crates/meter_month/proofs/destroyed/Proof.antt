@@ -56,8 +56,8 @@ returns c =
     λ l r m e p. fun-ext p ∙ ap (filled l) e in
     c .sum .ensures
     ∙ rw (
-      same (series (a .flows .now)) (series (c .before .before .before .before .fill .result)) (length (a .flows .now)) (s .pre .0 .0) (c .before .before .before .before .fill .ensures .1),
-      same (series (a .contents .now)) (series (c .before .before .before .fill2 .result)) (length (a .contents .now)) (s .pre .0 .1) (c .before .before .before .fill2 .ensures .1),
+      same (series (a .flows .now)) (series (c .before .before .before .before .fill .result)) (length (a .flows .now)) (s .pre .0 .0 .0) (c .before .before .before .before .fill .ensures .1),
+      same (series (a .contents .now)) (series (c .before .before .before .fill2 .result)) (length (a .contents .now)) (s .pre .0 .0 .1) (c .before .before .before .fill2 .ensures .1),
     )
 
 pub destroyed-spec : {M : Type 1} → statement M

@@ -2,7 +2,7 @@
 -- the hours passed stand in both series.
 -- Assumes nothing.
 use mathlib.Core.Path.{_≡_, refl, ap, sym, _∙_, subst}
-use Prim.Native.Nat.{ℕ, _≤_, _<_, _-_}
+use Prim.Native.Nat.{ℕ, _≤_, _-_}
 use native.Mathlib.Omega.{arith}
 use native.Mathlib.Nat.{le-trans, lt-of-lt-of-le}
 use borrow.Author.Needs.{needs}
@@ -11,7 +11,7 @@ use lib.Dec.{lit≤}
 use lib.ListN.{length, length-set}
 use Rattle.laws.specs.Counting.{firstFrom}
 use Rattle.laws.proofs.Counting.{search-stops, search-passes, search-ends}
-use Rattle.meter_series.specs.Series.{series, amount}
+use Rattle.meter_series.specs.Series.{amount}
 use Rattle.meter_series.proofs.Arrays.{stored}
 use Rattle.meter_hour.specs.declared.Hour.{Hour}
 use Rattle.meter_hour.specs.declared.Hour.the-variants.{Taken}
@@ -19,13 +19,17 @@ use Rattle.meter_hour.specs.declared.Kind.the-variants.{CubicMetres}
 use Rattle.meter_hour.specs.Hour.{hourAt, isRefused, flowOf, contentOf}
 use Rattle.meter_hour.specs.Room.{mostFlow, mostContent}
 use Rattle.meter_hour.proofs.Sizes.{flows-small, contents-small}
-use Rattle.meter_month.specs.Month.{firstRefused}
+use Rattle.meter_month.specs.Month.{firstRefused, recorded}
+use Rattle.meter_month.specs.Asks.{Holds}
 use Rattle.meter_month.proofs.Hours.{among, holds, reached, nearer}
 use Rattle.meter_month.proofs.record_hours.Statement.{statement}
 use Rattle.meter_month.proofs.record_hours.Tie as tie
 
 abbrev Inv-loop : tie.InvT-loop
-Inv-loop flows contents states litres₀ hundredths₀ hour₀ litres hundredths hour = (hour ≤ length states) × (length litres ≡ length litres₀) × (length hundredths ≡ length hundredths₀) × (firstRefused flows contents states ≡ firstFrom hour (length states - hour) (λ k. isRefused (hourAt flows contents states k))) × ((k : ℕ) → k < hour → series litres k ≡ flowOf (hourAt flows contents states k)) × ((k : ℕ) → k < hour → series hundredths k ≡ contentOf (hourAt flows contents states k))
+Inv-loop flows contents states litres₀ hundredths₀ hour₀ litres hundredths hour =
+    (hour ≤ length states) × (length litres ≡ length litres₀) × (length hundredths ≡ length hundredths₀)
+    × (firstRefused flows contents states ≡ firstFrom hour (length states - hour) (λ k. isRefused (hourAt flows contents states k)))
+    × Holds litres hour (recorded flowOf flows contents states) × Holds hundredths hour (recorded contentOf flows contents states)
 
 abbrev μ-loop : tie.MeasureT-loop
 μ-loop flows contents states litres₀ hundredths₀ hour₀ litres hundredths hour = length states - hour
@@ -66,8 +70,8 @@ returns c =
       (l .loop .inv .4, l .loop .inv .5),
     )
 
-slot-requires : tie.Need-slot-requires Inv-loop μ-loop
-slot-requires c κs =
+cell-requires : tie.Need-cell-requires Inv-loop μ-loop
+cell-requires c κs =
     let l = c .before .before .before .before .before in
     let a = l .before .before .before .before .before .before .args in
     let F = a .flows .now in
@@ -84,8 +88,8 @@ mul-litres c = search needs
 slice-write-litres : tie.Need-slice-write-litres Inv-loop μ-loop
 slice-write-litres c = lt-of-lt-of-le (c .before .before .before .before .before .loop-test .taken) (holds (c .before .before .before .before .before .before .before .before .before .before .before .before .pre .1 .0) (c .before .before .before .before .before .before .loop .inv .1))
 
-slot-requires-2 : tie.Need-slot-requires-2 Inv-loop μ-loop
-slot-requires-2 c κs =
+cell-requires-2 : tie.Need-cell-requires-2 Inv-loop μ-loop
+cell-requires-2 c κs =
     let l = c .before .before .before .before .before .before in
     let a = l .before .before .before .before .before .before .args in
     let F = a .flows .now in
@@ -124,8 +128,8 @@ loop-again c =
       simp length-set (l .loop .inv .1),
       simp length-set (l .loop .inv .2),
       l .loop .inv .3 ∙ search-passes (length S) h (λ k. isRefused (hourAt F C S k)) inside (ap isRefused taken),
-      stored (l .loop .litres) h (c .before .slot .result) (λ k. flowOf (hourAt F C S k)) (lt-of-lt-of-le inside (holds (s .pre .1 .0) (l .loop .inv .1))) (l .loop .inv .4) (c .before .slot .ensures ∙ sym (ap flowOf taken)),
-      stored (l .loop .hundredths) h (c .slot2 .result) (λ k. contentOf (hourAt F C S k)) (lt-of-lt-of-le inside (holds (s .pre .1 .1) (l .loop .inv .2))) (l .loop .inv .5) (c .slot2 .ensures ∙ sym (ap contentOf taken)),
+      stored (l .loop .litres) h (c .before .cell .result) (recorded flowOf F C S) (lt-of-lt-of-le inside (holds (s .pre .1 .0) (l .loop .inv .1))) (l .loop .inv .4) (c .before .cell .ensures ∙ sym (ap flowOf taken)),
+      stored (l .loop .hundredths) h (c .cell2 .result) (recorded contentOf F C S) (lt-of-lt-of-le inside (holds (s .pre .1 .1) (l .loop .inv .2))) (l .loop .inv .5) (c .cell2 .ensures ∙ sym (ap contentOf taken)),
     )
 
 same-length-3 : tie.Need-same-length-3 Inv-loop μ-loop
@@ -153,10 +157,10 @@ record-hours-spec =
     same-length
     same-length-2
     returns
-    slot-requires
+    cell-requires
     mul-litres
     slice-write-litres
-    slot-requires-2
+    cell-requires-2
     mul-hundredths
     slice-write-hundredths
     add-hour

@@ -48,25 +48,25 @@ shared-slice-read-hour-grams : tie.Need-shared-slice-read-hour-grams Inv-loop μ
 shared-slice-read-hour-grams c = c .before .loop-test .taken
 
 mul-read : tie.Need-mul-read Inv-loop μ-loop
-mul-read c = offset (c .before .loop-test .taken) (c .before .before .before .before .before .before .before .before .before .pre .0 .2)
+mul-read c = offset (c .before .loop-test .taken) (c .before .before .before .before .before .before .before .before .before .pre .0 .0 .2)
 
 shared-slice-read-read : tie.Need-shared-slice-read-read Inv-loop μ-loop
-shared-slice-read-read c = among (c .before .before .before .before .before .before .before .before .before .before .pre .0 .0) (c .before .before .loop-test .taken)
+shared-slice-read-read c = among (c .before .before .before .before .before .before .before .before .before .before .pre .0 .0 .0) (c .before .before .loop-test .taken)
 
 read-requires : tie.Need-read-requires Inv-loop μ-loop
 read-requires c κs = tt
 
 mul-read-2 : tie.Need-mul-read-2 Inv-loop μ-loop
-mul-read-2 c = offset (c .before .before .before .loop-test .taken) (c .before .before .before .before .before .before .before .before .before .before .before .pre .0 .2)
+mul-read-2 c = offset (c .before .before .before .loop-test .taken) (c .before .before .before .before .before .before .before .before .before .before .before .pre .0 .0 .2)
 
 shared-slice-read-read-2 : tie.Need-shared-slice-read-read-2 Inv-loop μ-loop
-shared-slice-read-read-2 c = among (c .before .before .before .before .before .before .before .before .before .before .before .before .pre .0 .1) (c .before .before .before .before .loop-test .taken)
+shared-slice-read-read-2 c = among (c .before .before .before .before .before .before .before .before .before .before .before .before .pre .0 .0 .1) (c .before .before .before .before .loop-test .taken)
 
 read-requires-2 : tie.Need-read-requires-2 Inv-loop μ-loop
 read-requires-2 c κs = tt
 
 mul-read-3 : tie.Need-mul-read-3 Inv-loop μ-loop
-mul-read-3 c = offset (c .before .before .before .before .before .loop-test .taken) (c .before .before .before .before .before .before .before .before .before .before .before .before .before .pre .0 .2)
+mul-read-3 c = offset (c .before .before .before .before .before .loop-test .taken) (c .before .before .before .before .before .before .before .before .before .before .before .before .before .pre .0 .0 .2)
 
 shared-slice-read-read-3 : tie.Need-shared-slice-read-read-3 Inv-loop μ-loop
 shared-slice-read-read-3 c = lt-of-lt-of-le (c .before .before .before .before .before .before .loop-test .taken) (c .before .before .before .before .before .before .before .before .before .before .before .before .before .before .pre .1 .0 .0)
@@ -75,7 +75,7 @@ read-requires-3 : tie.Need-read-requires-3 Inv-loop μ-loop
 read-requires-3 c κs = tt
 
 mul-read-4 : tie.Need-mul-read-4 Inv-loop μ-loop
-mul-read-4 c = offset (c .before .before .before .before .before .before .before .loop-test .taken) (c .before .before .before .before .before .before .before .before .before .before .before .before .before .before .before .pre .0 .2)
+mul-read-4 c = offset (c .before .before .before .before .before .before .before .loop-test .taken) (c .before .before .before .before .before .before .before .before .before .before .before .before .before .before .before .pre .0 .0 .2)
 
 shared-slice-read-read-4 : tie.Need-shared-slice-read-read-4 Inv-loop μ-loop
 shared-slice-read-read-4 c = lt-of-lt-of-le (c .before .before .before .before .before .before .before .before .loop-test .taken) (c .before .before .before .before .before .before .before .before .before .before .before .before .before .before .before .before .pre .1 .0 .1)
@@ -87,20 +87,20 @@ hour-grams-requires : tie.Need-hour-grams-requires Inv-loop μ-loop
 hour-grams-requires c κs =
     let s = c .before .before .before .before .before .before .before .before .before .before .before .before .before .before .before .before .before in
     let h = c .before .before .before .before .before .before .before .before .before .before .loop .hour in
-    (s .pre .0 .3, rw (c .before .before .read3 .ensures) (s .pre .1 .1 .0 h), rw (c .read4 .ensures) (s .pre .1 .1 .1 h))
+    (s .pre .0 .1, rw (c .before .before .read3 .ensures) (s .pre .1 .1 .0 h), rw (c .read4 .ensures) (s .pre .1 .1 .1 h))
 
 plus-requires : tie.Need-plus-requires Inv-loop μ-loop
 plus-requires c κs =
     let s = c .before .before .before .before .before .before .before .before .before .before .before .before .before .before .before .before .before .before in
     let l = c .before .before .before .before .before .before .before .before .before .before .before .loop in
     let a = s .args in
-    let sofar = grams-small (a .kind) (a .efficiency) (stateAt (a .states .now)) (series (a .flows .now)) (series (a .contents .now)) (series (a .filled-flows .now)) (series (a .filled-contents .now)) (s .pre .0 .3) (s .pre .1 .1 .0) (s .pre .1 .1 .1) (l .hour) in
-    let one = hour-most (a .kind) (a .efficiency) (getD (a .states .now) (l .hour) 0) (c .before .before .before .before .before .before .before .read .result) (c .before .before .before .before .before .read2 .result) (c .before .before .before .read3 .result) (c .before .read4 .result) (s .pre .0 .3)
+    let sofar = grams-small (a .kind) (a .efficiency) (stateAt (a .states .now)) (series (a .flows .now)) (series (a .contents .now)) (series (a .filled-flows .now)) (series (a .filled-contents .now)) (s .pre .0 .1) (s .pre .1 .1 .0) (s .pre .1 .1 .1) (l .hour) in
+    let one = hour-most (a .kind) (a .efficiency) (getD (a .states .now) (l .hour) 0) (c .before .before .before .before .before .before .before .read .result) (c .before .before .before .before .before .read2 .result) (c .before .before .before .read3 .result) (c .before .read4 .result) (s .pre .0 .1)
     (rw (c .before .before .before .read3 .ensures) (s .pre .1 .1 .0 (l .hour))) (rw (c .before .read4 .ensures) (s .pre .1 .1 .1 (l .hour))) in
-    rw (l .inv .2, c .hour-grams .ensures) (room (c .before .before .before .before .before .before .before .before .before .before .loop-test .taken) (s .pre .0 .2) sofar one)
+    rw (l .inv .2, c .hour-grams .ensures) (room (c .before .before .before .before .before .before .before .before .before .before .loop-test .taken) (s .pre .0 .0 .2) sofar one)
 
 add-hour : tie.Need-add-hour Inv-loop μ-loop
-add-hour c = next (c .before .before .before .before .before .before .before .before .before .before .before .loop-test .taken) (c .before .before .before .before .before .before .before .before .before .before .before .before .before .before .before .before .before .before .before .pre .0 .2)
+add-hour c = next (c .before .before .before .before .before .before .before .before .before .before .before .loop-test .taken) (c .before .before .before .before .before .before .before .before .before .before .before .before .before .before .before .before .before .before .before .pre .0 .0 .2)
 
 loop-less : tie.Need-loop-less Inv-loop μ-loop
 loop-less c = nearer (c .before .before .before .before .before .before .before .before .before .before .before .loop-test .taken)

@@ -1,4 +1,4 @@
--- The line lies within the page. Assumes nothing.
+-- The text lies within the page. Assumes nothing.
 use mathlib.Core.Path.{sym}
 use borrow.Author.Needs.{needs}
 use lib.Seq.{length-take-le}
@@ -6,17 +6,17 @@ use Rattle.print_page.proofs.Laying.{within}
 use Rattle.month.proofs.print.Statement.{statement}
 use Rattle.month.proofs.print.Tie as tie
 
-slice-aggregate-line : tie.Need-slice-aggregate-line
-slice-aggregate-line c = search needs
+slice-aggregate-lay-answer : tie.Need-slice-aggregate-lay-answer
+slice-aggregate-lay-answer c = search needs
 
-line-requires : tie.Need-line-requires
-line-requires c κs = search needs
+lay-answer-requires : tie.Need-lay-answer-requires
+lay-answer-requires c κs = search needs
 
 array-share-prefix-page : tie.Need-array-share-prefix-page
-array-share-prefix-page c = within (c .before .line .ensures)
+array-share-prefix-page c = within (c .before .lay-answer .ensures)
 
 slice-aggregate-write-all : tie.Need-slice-aggregate-write-all
-slice-aggregate-write-all c = sym (length-take-le _ _ (within (c .before .before .line .ensures)))
+slice-aggregate-write-all c = sym (length-take-le _ _ (within (c .before .before .lay-answer .ensures)))
 
 write-all-requires : tie.Need-write-all-requires
 write-all-requires c κs = search needs
@@ -37,8 +37,8 @@ pub print-spec : {M : Type 1} → statement M
 print-spec =
     tie.close
     (tie.spec
-    slice-aggregate-line
-    line-requires
+    slice-aggregate-lay-answer
+    lay-answer-requires
     array-share-prefix-page
     slice-aggregate-write-all
     write-all-requires

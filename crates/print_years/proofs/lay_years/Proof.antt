@@ -37,25 +37,25 @@ lay-year-requires c κs =
     let held : Held f = holds c in
     omega (arith, room, w .room, test, size w room, year-fits (loop .year) f (omega arith) held)
 
-enum-known-number : tie.Need-enum-known-number Inv-loop μ-loop
-enum-known-number c = search needs
+enum-known-refusal : tie.Need-enum-known-refusal Inv-loop μ-loop
+enum-known-refusal c = search needs
 
 lay-refusal-requires : tie.Need-lay-refusal-requires Inv-loop μ-loop
 lay-refusal-requires c κs =
     let w = c .before .before .before .before .before .before .loop .inv in
     let room = c .before .before .before .before .before .before .before .before .before .pre .1 in
     let test = c .before .before .before .before .before .loop-test .taken in
-    let refusal = c .before .before .number .given .0 in
-    let number : refusal .0 < 2 ^ 8 = search needs in
-    let place : refusal .1 .0 < 2 ^ 64 = search needs in
-    omega (arith, room, w .room, test, size w room, refusal-fits (refusal .0) (refusal .1 .0) number place)
+    let refusal = c .before .before .refusal .given .0 .0 in
+    let number : refusal .number < 2 ^ 8 = search needs in
+    let place : refusal .place < 2 ^ 64 = search needs in
+    omega (arith, room, w .room, test, size w room, refusal-fits refusal number place)
 
 same-length : tie.Need-same-length Inv-loop μ-loop
 same-length c = c .before .before .lay-refusal .kept .0 ∙ size (c .before .before .before .before .before .before .before .before .before .loop .inv) (c .before .before .before .before .before .before .before .before .before .before .before .before .pre .1)
 
 returns : tie.Need-returns Inv-loop μ-loop
 returns c =
-    refused (c .before .before .before .before .before .before .before .before .before .loop .inv) (c .before .before .before .before .before .before .before .before .loop-test .taken) (c .before .before .before .before .before .before .before .year .ensures) (c .before .before .before .before .before .number .given .1)
+    refused (c .before .before .before .before .before .before .before .before .before .loop .inv) (c .before .before .before .before .before .before .before .before .loop-test .taken) (c .before .before .before .before .before .before .before .year .ensures) (c .before .before .before .before .before .refusal .given .1)
     (c .before .before .lay-refusal .ensures)
 
 add-year : tie.Need-add-year Inv-loop μ-loop
@@ -91,7 +91,7 @@ lay-years-spec =
     year-requires
     enum-known-figures
     lay-year-requires
-    enum-known-number
+    enum-known-refusal
     lay-refusal-requires
     same-length
     returns

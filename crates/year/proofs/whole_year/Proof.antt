@@ -1,5 +1,6 @@
 -- `year::whole_year` meets its contract: the shares, and then the figures, since no sum passes 2^63.
 -- Assumes nothing.
+use mathlib.Core.Path.{_∙_}
 use borrow.Author.Needs.{needs}
 use denote.Ref.{now}
 use Rattle.year.proofs.Answers.{over-is, stated-is}
@@ -9,10 +10,13 @@ use Rattle.year.proofs.whole_year.Tie as tie
 over-shared-requires : tie.Need-over-shared-requires
 over-shared-requires c κs = search needs
 
+refused-requires : tie.Need-refused-requires
+refused-requires c κs = search needs
+
 returns : tie.Need-returns
 returns c =
-    let start = c .before .before .before in
-    over-is (now (start .args .book)) (start .args .year) (c .before .over-shared .ensures) (c .if1 .taken)
+    let start = c .before .before .before .before in
+    c .refused .ensures ∙ over-is (now (start .args .book)) (start .args .year) (c .before .before .over-shared .ensures) (c .before .if1 .taken)
 
 figures-of-requires : tie.Need-figures-of-requires
 figures-of-requires c κs = search needs
@@ -25,4 +29,6 @@ returns-2 c =
     (c .figures-of .ensures)
 
 pub whole-year-spec : {M : Type 1} → statement M
-whole-year-spec = tie.close (tie.spec over-shared-requires returns figures-of-requires returns-2)
+whole-year-spec =
+    tie.close
+    (tie.spec over-shared-requires refused-requires returns figures-of-requires returns-2)

@@ -5,7 +5,7 @@ use native.Mathlib.Omega.{arith}
 use borrow.Author.Needs.{needs}
 use Rattle.book.proofs.Kept.{empty-valid}
 use Rattle.print_years.proofs.Lengths.{refusal-fits}
-use Rattle.years.specs.Output.{endingLines}
+use Rattle.years.specs.Output.{endingText}
 use Rattle.years.specs.Input.{unread}
 use Rattle.years.proofs.Printed.{laid}
 use Rattle.years.proofs.lay_input.Statement.{statement}
@@ -28,10 +28,10 @@ enum-known-ending c = search needs
 
 lay-refusal-requires : tie.Need-lay-refusal-requires
 lay-refusal-requires c κs =
-    let refusal = c .before .before .ending .given .0 in
-    let number : refusal .0 < 2 ^ 8 = search needs in
-    let place : refusal .1 .0 < 2 ^ 64 = search needs in
-    omega (arith, c .before .before .before .before .before .before .before .before .before .before .before .before .before .before .before .before .before .before .pre .1 .1, refusal-fits (refusal .0) (refusal .1 .0) number place)
+    let refusal = c .before .before .ending .given .0 .0 in
+    let number : refusal .number < 2 ^ 8 = search needs in
+    let place : refusal .place < 2 ^ 64 = search needs in
+    omega (arith, c .before .before .before .before .before .before .before .before .before .before .before .before .before .before .before .before .before .before .pre .1 .1, refusal-fits refusal number place)
 
 enum-told-2 : tie.Need-enum-told-2
 enum-told-2 c = search needs
@@ -46,7 +46,7 @@ same-length-3 : tie.Need-same-length-3
 same-length-3 c = search needs
 
 returns : tie.Need-returns
-unfolding endingLines
+unfolding endingText
 returns c = laid (c .before .before .before .before .before .before .before .before .before .before .before .before .before .before .before .before .empty .ensures) (c .before .before .before .before .before .before .before .before .before .before .before .post-input .ensures .0) (c .before .before .before .before .before .enum-told .given .1) tt (c .before .before .lay-years .ensures)
 
 same-length-4 : tie.Need-same-length-4
@@ -59,7 +59,7 @@ same-length-6 : tie.Need-same-length-6
 same-length-6 c = search needs
 
 returns-2 : tie.Need-returns-2
-unfolding endingLines
+unfolding endingText
 returns-2 c = laid (c .before .before .before .before .before .before .before .before .before .before .before .before .before .before .before .before .empty .ensures) (c .before .before .before .before .before .before .before .before .before .before .before .post-input .ensures .0) (c .before .before .before .before .before .ending .given .1) tt (c .before .before .lay-refusal .ensures)
 
 same-length-7 : tie.Need-same-length-7

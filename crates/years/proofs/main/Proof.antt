@@ -1,10 +1,10 @@
--- The arrays are as long as `lay_input` asks (Sizes), and what is written lies within the page. Assumes nothing.
-use mathlib.Core.Path.{sym}
+-- The arrays are as long as `lay_input` asks (a book's size is what the table computes), and what is written lies within the page. Assumes nothing.
+use mathlib.Core.Path.{refl, sym}
 use lib.Dec.{lit≤}
 use lib.Seq.{length-take-le}
 use borrow.Author.Needs.{needs}
+use Rattle.record_table.specs.Slot.{count, total, slots}
 use Rattle.years.proofs.Printed.{ends-within}
-use Rattle.years.proofs.Sizes.{book-bytes}
 use Rattle.years.proofs.main.Statement.{statement}
 use Rattle.years.proofs.main.Tie as tie
 
@@ -18,7 +18,8 @@ slice-aggregate-lay-input-3 : tie.Need-slice-aggregate-lay-input-3
 slice-aggregate-lay-input-3 c = search needs
 
 lay-input-requires : tie.Need-lay-input-requires
-lay-input-requires c κs = (book-bytes, (lit≤ tt, lit≤ tt))
+unfolding count total slots
+lay-input-requires c κs = (refl, (lit≤ tt, lit≤ tt))
 
 enum-known-outcome : tie.Need-enum-known-outcome
 enum-known-outcome c = search needs

@@ -1,4 +1,4 @@
--- `meter_series::slot` meets its contract: the number is small enough for one more.
+-- `meter_series::cell` meets its contract: the number is small enough for one more.
 -- Assumes nothing.
 use mathlib.Core.Path.{sym, ap, _∙_}
 use native.Mathlib.Numerals.{add-one}
@@ -6,8 +6,8 @@ use native.Mathlib.Omega.{arith}
 use Rattle.meter_series.specs.Series.{valueOf}
 use Rattle.meter_series.proofs.Arrays.{amount-of}
 use borrow.Author.Needs.{needs}
-use Rattle.meter_series.proofs.slot.Statement.{statement}
-use Rattle.meter_series.proofs.slot.Tie as tie
+use Rattle.meter_series.proofs.cell.Statement.{statement}
+use Rattle.meter_series.proofs.cell.Tie as tie
 
 enum-known-value : tie.Need-enum-known-value
 enum-known-value c = search needs
@@ -24,5 +24,5 @@ returns c = ap valueOf (add-one (c .before .value .given .0 .0)) ∙ sym (c .bef
 returns-2 : tie.Need-returns-2
 returns-2 c = search needs
 
-pub slot-spec : {M : Type 1} → statement M
-slot-spec = tie.close (tie.spec enum-known-value add-result enum-told returns returns-2)
+pub cell-spec : {M : Type 1} → statement M
+cell-spec = tie.close (tie.spec enum-known-value add-result enum-told returns returns-2)

@@ -3,9 +3,6 @@ use Prim.Native.{Nat.ℕ, String.String}
 use mathlib.Core.List.{List, _++_}
 use Rattle.print_page.specs.Number.{word, decimal}
 
-abbrev pub newline : List ℕ
-newline = word "\n"
-
 -- a word and the figure after it
 abbrev pub figure : String → ℕ → List ℕ
 figure name n = word name ++ decimal n

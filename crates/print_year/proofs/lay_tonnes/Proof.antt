@@ -7,11 +7,11 @@ use lib.ListN.{length}
 use mir.Syntax.{w64}
 use mir.Val.{toZ, ofZ}
 use Rattle.print_page.specs.Number.{signed}
-use Rattle.print_year.specs.Lines.{tonnesLine}
+use Rattle.print_year.specs.Text.{tonnesText}
 use Rattle.print_page.proofs.Laying.{joined}
 use Rattle.print_year.proofs.Lengths.{begins, tonnes-length}
-use Rattle.print_year.proofs.lay_tonnes_line.Statement.{statement}
-use Rattle.print_year.proofs.lay_tonnes_line.Tie as tie
+use Rattle.print_year.proofs.lay_tonnes.Statement.{statement}
+use Rattle.print_year.proofs.lay_tonnes.Tie as tie
 
 held : (s : tie.Start) → toZ w64 (ofZ w64 (s .args .figures .net)) ≡ s .args .figures .net
 held s = search needs
@@ -44,16 +44,16 @@ same-length : tie.Need-same-length
 same-length c = search needs
 
 returns : tie.Need-returns
-unfolding tonnesLine
+unfolding tonnesText
 returns c =
     let s = c .before .before .before .before .before .before .before .before .before .before .before .before .before .before .before .before .before .before .before .before .before in
     let named = c .before .before .before .before .before .before .before .before .before .before .before .before .before .before .before .before .before .lay-word .ensures in
     let net = c .before .before .before .before .before .before .before .before .before .before .before .before .lay-signed .ensures in
-    let start = begins (s .args .at) (length (tonnesLine (s .args .figures))) (s .pre) in
+    let start = begins (s .args .at) (length (tonnesText (s .args .figures))) (s .pre) in
     joined (joined (joined named (rw (held s) at net) start) (c .before .before .before .before .before .before .before .lay-figure .ensures) start) (c .before .before .lay-word2 .ensures) start
 
-pub lay-tonnes-line-spec : {M : Type 1} → statement M
-lay-tonnes-line-spec =
+pub lay-tonnes-spec : {M : Type 1} → statement M
+lay-tonnes-spec =
     tie.close
     (tie.spec
     slice-aggregate-lay-word

@@ -1,7 +1,7 @@
 -- What `grams` reads is the unit's own number. Assumes nothing.
 use borrow.Author.Needs.{needs}
-use Rattle.print_year.proofs.lay_co2e.Statement.{statement}
-use Rattle.print_year.proofs.lay_co2e.Tie as tie
+use Rattle.print_year.proofs.lay_co2e_figure.Statement.{statement}
+use Rattle.print_year.proofs.lay_co2e_figure.Tie as tie
 
 grams-requires : tie.Need-grams-requires
 grams-requires c κs = search needs
@@ -15,5 +15,5 @@ same-length c = search needs
 returns : tie.Need-returns
 returns c = rw (← c .before .before .before .grams .ensures) (c .before .before .lay-figure .ensures)
 
-pub lay-co2e-spec : {M : Type 1} → statement M
-lay-co2e-spec = tie.close (tie.spec grams-requires lay-figure-requires same-length returns)
+pub lay-co2e-figure-spec : {M : Type 1} → statement M
+lay-co2e-figure-spec = tie.close (tie.spec grams-requires lay-figure-requires same-length returns)
