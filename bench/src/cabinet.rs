@@ -1,7 +1,36 @@
 //! What the proved library answers, by its C face (include/cabinet.h).
 
-/// The bytes of a book.
-pub const BOOK_BYTES: usize = 104_208;
+/// The bytes of a book, as the header says them; tests/face holds the header
+/// to the library, where they follow from the table of the records.
+pub const BOOK_BYTES: usize = defined("#define CABINET_BOOK_BYTES ");
+
+/// The number that stands in the header after some words. Words that do not
+/// stand there end the compilation.
+const fn defined(words: &str) -> usize {
+    let header = include_bytes!("../../include/cabinet.h");
+    let mut at = 0;
+    while !stand_at(words.as_bytes(), header, at) {
+        at += 1;
+    }
+    at += words.len();
+    let mut number = 0;
+    while header[at].is_ascii_digit() {
+        number = 10 * number + (header[at] - b'0') as usize;
+        at += 1;
+    }
+    number
+}
+
+const fn stand_at(words: &[u8], text: &[u8], at: usize) -> bool {
+    let mut i = 0;
+    while i < words.len() {
+        if text[at + i] != words[i] {
+            return false;
+        }
+        i += 1;
+    }
+    true
+}
 
 #[repr(C)]
 #[derive(Clone, Copy, Debug, PartialEq, Eq)]
