@@ -13,34 +13,18 @@ use Rattle.number_bytes.specs.Number.{numberAt}
 use Rattle.record_table.specs.Slot.{count, index, slots, slotOf}
 use Rattle.record_table.proofs.Slots.{digit-same, Low, index-below, Among, among, among-all, one-row}
 use Rattle.record_fields.specs.Entry.{inRange}
-use Rattle.record_judge.specs.Record.{keyIn, rowOf, keyOf, judged}
-use Rattle.record_judge.specs.declared.Judged.the-variants.{Empty}
+use Rattle.record_judge.specs.Record.{keyIn, rowOf, keyOf, judged, storedOf}
+use Rattle.record_judge.specs.declared.Judged.the-variants.{Put, Empty}
 use Rattle.record_judge.proofs.Taken.{Taken, never-empties}
-use Rattle.record_judge.proofs.Entries.{Ranged, each-ranged}
-
-pub both : (a b : Bool) → (a && b) ≡ true → (a ≡ true) × (b ≡ true)
-both true b e = (refl, e)
-both false b e = let z : _≡_ {A = ℕ} 0 1 = cc in absurd (omega arith)
-
-pub within : (low high : ℕ) (r : List ℕ) (x : ℕ) → inRange (from low high) r x ≡ true → (low ≤ x) × (x ≤ high)
-unfolding inRange
-within low high r x e =
-    let b = both (leb low x) (leb x high) e in
-    (leb-true _ _ (b .0), leb-true _ _ (b .1))
-
--- a byte of the key counts from 1 to its highest value
-byte : (r : List ℕ) (at high : ℕ) → inRange (from 1 high) r (numberAt r at 1) ≡ true → (1 ≤ getD r at 0) × (getD r at 0 ≤ high)
-unfolding numberAt
-byte r at high e =
-    let b = within 1 high r (getD r at 0 + 256 * 0) e in
-    (omega arith, omega arith)
+use Rattle.record_judge.proofs.StoredBytes.{taken}
+use Rattle.record_judge.proofs.Entries.{Ranged, each-ranged, within-byte}
 
 -- the bytes of a key whose entries, with some after them, are in their ranges
 module _ (after : List Entry) where
   low : (at : ℕ) (highest r : List ℕ) → Ranged at (map (u8 1) highest ++ after) r → Low highest (keyIn at highest r)
   unfolding keyIn
   low at [] r g = tt
-  low at (high ∷ highest) r g = let b = byte r at high (g .0) in (omega arith, low (at + 1) highest r (g .1))
+  low at (high ∷ highest) r g = let b = within-byte r at 1 high (g .0) in (omega arith, low (at + 1) highest r (g .1))
 
   tells :
       (at : ℕ) (highest r s : List ℕ) → Ranged at (map (u8 1) highest ++ after) r → Ranged at (map (u8 1) highest ++ after) s →
@@ -48,8 +32,8 @@ module _ (after : List Entry) where
   unfolding keyIn index
   tells at [] r s g h e = refl
   tells at (high ∷ highest) r s g h e =
-      let b = byte r at high (g .0) in
-      let c = byte s at high (h .0) in
+      let b = within-byte r at 1 high (g .0) in
+      let c = within-byte s at 1 high (h .0) in
       let i = index-below highest (keyIn (at + 1) highest r) (low (at + 1) highest r (g .1)) in
       let j = index-below highest (keyIn (at + 1) highest s) (low (at + 1) highest s (h .1)) in
       let d : getD r at 0 - 1 ≡ getD s at 0 - 1 = digit-same (getD r at 0 - 1) (getD s at 0 - 1) (count highest) _ _ i j e in
@@ -70,8 +54,12 @@ module _ (r : List ℕ) (k : ℕ) (t : Taken r k) where
   unfolding keyOf
   there = subst (Among (rowOf r)) (t .slot) (among (rowOf r) (t .row) (keyOf (rowOf r) r) (low (afterKey (rowOf r)) afterMark (highestOf (rowOf r)) r fields))
 
-  pub slot-below : k < slots
+  slot-below : k < slots
   slot-below = among-all (rowOf r) k (t .row) there
+
+-- the slot into which a record puts its bytes lies inside the book
+pub put-below : (r : List ℕ) (k : ℕ) → judged r ≡ Put k → k < slots
+put-below r k e = slot-below (storedOf r) k (taken r k e)
 
 -- and the slot of one that would be emptied lies inside the book too
 pub emptied-below : (r : List ℕ) (k : ℕ) → judged r ≡ Empty k → k < slots

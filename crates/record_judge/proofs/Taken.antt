@@ -1,7 +1,8 @@
--- What is so of a record, by what it is judged to do. One that puts bytes into a slot has sixteen bytes, a row of the table, no field outside its range, and
--- its key's slot; a refusal has a number that posting gives; and no record empties a slot, since no mark does that yet. Assumes nothing.
-use mathlib.Core.Path.{_≡_, refl, subst}
-use mathlib.Core.Bool.{true, false}
+-- What is so of a record, by what it is judged to do. One that puts bytes into a slot has sixteen bytes, a row of the table or the letters of LD, no field
+-- outside its range, and its key's slot; a refusal has a number that posting gives; and no record empties a slot, since no mark does that yet.
+-- Assumes nothing.
+use mathlib.Core.Path.{_≡_, refl, sym, subst}
+use mathlib.Core.Bool.{Bool, true, false}
 use mathlib.Core.List.{List, List·Memᴰ, List·Memᴰ·head, List·Memᴰ·tail}
 use Prim.Native.Nat.{ℕ, _≤_, _<_}
 use borrow.Author.Tests.{ltb-true, ltb-false, eqb-true}
@@ -10,47 +11,64 @@ use lib.ListN.{length}
 use Rattle.laws.proofs.Picking.{picked}
 use Rattle.refusals.specs.Refusal.{postingOrder}
 use Rattle.refusals.specs.declared.Refusal.{Refusal}
-use Rattle.record_table.specs.Table.{table, entriesOf, recordBytes, afterMark}
+use Rattle.record_table.specs.Table.{table, ln, entriesOf, recordBytes, afterMark}
 use Rattle.record_table.specs.Slot.{slotOf}
-use Rattle.record_judge.specs.Record.{nowhere, nonzeroIn, outsideIn, rowOf, keyOf, verdict, judgedAs, judged}
+use Rattle.record_defaults.specs.Defaults.{isDefaults, defaultsEntries}
+use Rattle.record_judge.specs.Record.{nowhere, outsideIn, rowOf, keyOf, verdict, judgedAs, judged}
 use Rattle.record_judge.specs.declared.Judged.{Judged}
 use Rattle.record_judge.specs.declared.Judged.the-variants.{Refused, Put, Empty}
+use Rattle.record_judge.proofs.Entries.{Ranged, defaults-ranged}
 
+-- a record of the table that is put into slot k
 pub record Taken (r : List ℕ) (k : ℕ) : Type 0 where
   pub long : length r ≡ recordBytes
   pub row : rowOf r < length table
   pub ranged : nowhere ≤ outsideIn afterMark (entriesOf (rowOf r)) r
   pub slot : slotOf (rowOf r) (keyOf (rowOf r) r) ≡ k
 
+-- what is so of a record that is put there, by whether it is a defaults line
+PutBy : Bool → List ℕ → ℕ → Type 0
+PutBy true r k = Ranged afterMark (defaultsEntries r) r × (slotOf ln (keyOf ln r) ≡ k)
+PutBy false r k = Taken r k
+
 So : List ℕ → Judged → Type 0
 So r (Refused x) = List·Memᴰ (x .number) postingOrder
-So r (Put k) = Taken r k
+So r (Put k) = (length r ≡ recordBytes) × PutBy (isDefaults r) r k
 So r (Empty k) = ⊥
 
-passed :
-    (r : List ℕ) → eqb (length r) recordBytes ≡ true → ltb (rowOf r) (length table) ≡ true →
-    ltb (outsideIn afterMark (entriesOf (rowOf r)) r) nowhere ≡ false → Taken r (slotOf (rowOf r) (keyOf (rowOf r) r))
-passed r long row field = record { long = eqb-true _ _ long; row = ltb-true _ _ row; ranged = ltb-false _ _ field; slot = refl }
+by-verdict : (r : List ℕ) (nonzero outside slot : ℕ) → (nowhere ≤ outside → So r (Put slot)) → So r (verdict nonzero outside slot)
+unfolding So verdict
+by-verdict r nonzero outside slot put =
+    picked (So r) (ltb nonzero nowhere)
+    (λ zero. List·Memᴰ·tail (List·Memᴰ·tail (List·Memᴰ·head refl)))
+    (λ zero.
+    picked (So r) (ltb outside nowhere)
+    (λ field. List·Memᴰ·tail (List·Memᴰ·tail (List·Memᴰ·tail (List·Memᴰ·head refl))))
+    (λ field. put (ltb-false _ _ field)))
+
+module _ (r : List ℕ) (long : eqb (length r) recordBytes ≡ true) where
+  as-defaults : isDefaults r ≡ true → nowhere ≤ outsideIn afterMark (defaultsEntries r) r → So r (Put (slotOf ln (keyOf ln r)))
+  unfolding So PutBy
+  as-defaults its inside = (eqb-true _ _ long, subst (λ (b : Bool). PutBy b r (slotOf ln (keyOf ln r))) (sym its) (defaults-ranged r inside, refl))
+
+  as-row : isDefaults r ≡ false → ltb (rowOf r) (length table) ≡ true → nowhere ≤ outsideIn afterMark (entriesOf (rowOf r)) r → So r (Put (slotOf (rowOf r) (keyOf (rowOf r) r)))
+  unfolding So PutBy
+  as-row other row inside =
+      let t : Taken r (slotOf (rowOf r) (keyOf (rowOf r) r)) = record { long = eqb-true _ _ long; row = ltb-true _ _ row; ranged = inside; slot = refl } in
+      (eqb-true _ _ long, subst (λ (b : Bool). PutBy b r (slotOf (rowOf r) (keyOf (rowOf r) r))) (sym other) t)
 
 so : (r : List ℕ) → So r (judged r)
-unfolding So judged judgedAs verdict
+unfolding judged judgedAs
 so r =
     picked (So r) (eqb (length r) recordBytes)
     (λ long.
+    picked (So r) (isDefaults r)
+    (λ its. by-verdict r _ _ _ (as-defaults r long its))
+    (λ other.
     picked (So r) (ltb (rowOf r) (length table))
-    (λ row.
-    picked (So r) (ltb (nonzeroIn afterMark (entriesOf (rowOf r)) r) nowhere)
-    (λ zero. List·Memᴰ·tail (List·Memᴰ·tail (List·Memᴰ·head refl)))
-    (λ zero.
-    picked (So r) (ltb (outsideIn afterMark (entriesOf (rowOf r)) r) nowhere)
-    (λ field. List·Memᴰ·tail (List·Memᴰ·tail (List·Memᴰ·tail (List·Memᴰ·head refl))))
-    (passed r long row)))
-    (λ row. List·Memᴰ·tail (List·Memᴰ·head refl)))
-    (λ long. List·Memᴰ·head refl)
-
-pub taken : (r : List ℕ) (k : ℕ) → judged r ≡ Put k → Taken r k
-unfolding So
-taken r k e = subst (So r) e (so r)
+    (λ row. by-verdict r _ _ _ (as-row r long other row))
+    (λ row. unfold So in List·Memᴰ·tail (List·Memᴰ·head refl))))
+    (λ long. unfold So in List·Memᴰ·head refl)
 
 pub never-empties : (r : List ℕ) (k : ℕ) → judged r ≡ Empty k → ⊥
 unfolding So
@@ -59,3 +77,20 @@ never-empties r k e = subst (So r) e (so r)
 pub numbered : (r : List ℕ) (x : Refusal) → judged r ≡ Refused x → List·Memᴰ (x .number) postingOrder
 unfolding So
 numbered r x e = subst (So r) e (so r)
+
+-- of a record that puts bytes into slot k
+module _ (r : List ℕ) (k : ℕ) (e : judged r ≡ Put k) where
+  its : (length r ≡ recordBytes) × PutBy (isDefaults r) r k
+  unfolding So
+  its = subst (So r) e (so r)
+
+  pub put-long : length r ≡ recordBytes
+  put-long = its .0
+
+  pub defaults-put : isDefaults r ≡ true → Ranged afterMark (defaultsEntries r) r × (slotOf ln (keyOf ln r) ≡ k)
+  unfolding PutBy
+  defaults-put d = subst (λ (b : Bool). PutBy b r k) d (its .1)
+
+  pub row-put : isDefaults r ≡ false → Taken r k
+  unfolding PutBy
+  row-put d = subst (λ (b : Bool). PutBy b r k) d (its .1)

@@ -1,13 +1,14 @@
--- What a record does, judged alone (01, "The records", "Refusal numbers"): it is refused, 1 to 4, or it puts its bytes into the slot of its key.
+-- What a record does, judged alone (01, "The records", "Refusal numbers"; 02, (i)): it is refused, 1 to 4, or it puts bytes into the slot of its key.
 -- Assumes nothing.
 use Prim.Native.Nat.{ℕ, suc, _+_}
-use mathlib.Core.{Bool.cond, List.List, List.[], List._∷_}
+use mathlib.Core.{Bool.cond, List.List, List.[], List._∷_, Path._≡_}
 use lib.{Dec.eqb, Dec.ltb, ListN.length, ListN.getD}
-use Rattle.record_table.specs.Table.{Entry, zeros, field, Row, table, highestOf, entriesOf, recordBytes, afterMark}
+use Rattle.record_table.specs.Table.{Entry, zeros, field, Row, table, ln, highestOf, entriesOf, recordBytes, afterMark}
 use Rattle.number_bytes.specs.Number.{numberAt}
 use Rattle.record_table.specs.Slot.{slotOf}
 use Rattle.refusals.specs.Refusal.{refusal, notSixteenBytes, unknownMark, notZero, outOfRange}
 use Rattle.record_fields.specs.Entry.{outsideAt, nonzeroAt}
+use Rattle.record_defaults.specs.Defaults.{isDefaults, defaultsEntries, lineOf}
 use Rattle.record_judge.specs.declared.Judged.{Judged, the-variants.Refused, the-variants.Put}
 
 -- the place of what is not found: past the record's last byte
@@ -48,16 +49,26 @@ verdict nonzero outside slot =
     cond (ltb nonzero nowhere) (Refused (refusal notZero nonzero))
     (cond (ltb outside nowhere) (Refused (refusal outOfRange outside)) (Put slot))
 
--- a record judged by a row; and any bytes judged: other than sixteen of them are refused, and so are letters that no row has, both at place 0
-unfoldable pub judgedAs : ℕ → List ℕ → Judged
-judgedAs row r = verdict (nonzeroIn afterMark (entriesOf row) r) (outsideIn afterMark (entriesOf row) r) (slotOf row (keyOf row r))
+-- a record judged by its entries, for the slots of a row; and by a row
+abbrev pub judgedBy : List Entry → ℕ → List ℕ → Judged
+judgedBy entries row r = verdict (nonzeroIn afterMark entries r) (outsideIn afterMark entries r) (slotOf row (keyOf row r))
 
+unfoldable pub judgedAs : ℕ → List ℕ → Judged
+judgedAs row r = judgedBy (entriesOf row) row r
+
+-- any bytes judged: other than sixteen of them are refused, and so are letters that no record has, both at place 0. A defaults line has LN's key.
 unfoldable pub judged : List ℕ → Judged
 judged r =
     cond (eqb (length r) recordBytes)
-    (cond (ltb (rowOf r) (length table)) (judgedAs (rowOf r) r) (Refused (refusal unknownMark 0)))
+    (cond (isDefaults r) (judgedBy (defaultsEntries r) ln r)
+    (cond (ltb (rowOf r) (length table)) (judgedAs (rowOf r) r) (Refused (refusal unknownMark 0))))
     (Refused (refusal notSixteenBytes 0))
 
--- the sixteen bytes that a record puts into its slot: the record as it came
+-- the sixteen bytes that a record puts into its slot: the record as it came; of a defaults line, the LN that it stands for
 unfoldable pub storedOf : List ℕ → List ℕ
-storedOf r = r
+storedOf r = cond (isDefaults r) (lineOf r) r
+
+-- a record that puts its bytes into a slot
+pub record Puts (r : List ℕ) : Type 0 where
+  pub slot : ℕ
+  pub judged-so : judged r ≡ Put slot

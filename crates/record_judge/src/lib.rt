@@ -8,16 +8,19 @@ use refusals::Refusal;
 ghost use mathlib.Core.Path.{_≡_};
 ghost use mathlib.Core.Bool.{cond, _&&_};
 ghost use mathlib.Core.List.{[], _∷_};
-ghost use Prim.Native.Nat.{_^_, _<_};
-ghost use lib.Dec.{eqb};
+ghost use Prim.Native.Nat.{_+_, _^_, _≤_, _<_};
+ghost use lib.Dec.{eqb, leb};
 ghost use lib.IntN.{pos, negℤ};
 ghost use lib.ListN.{length, drop};
 ghost use lib.Signed.{leZ};
 ghost use Rattle.refusals.specs.Refusal.{refusal};
-ghost use Rattle.record_table.specs.Table.{yr, ln, hd, tp, dr, pe, mt, entriesOf, recordBytes};
+ghost use Rattle.record_table.specs.Table.{unless, yr, ln, hd, tp, dr, pe, mt, entriesOf, recordBytes};
+ghost use Rattle.record_fields.specs.Entry.{outsideAt};
+ghost use Rattle.record_defaults.specs.Tables.{livestocks, Livestock, lowestState, highestState};
+ghost use Rattle.record_defaults.specs.Defaults.{stateAt, defaultsEntries};
 ghost use Rattle.record_judge.specs.declared.Judged.the-variants.{Refused};
-ghost use Rattle.record_judge.specs.Record.{outsideIn, verdict, judgedAs, judged, storedOf};
-ghost use Rattle.record_judge.specs.Keyed.{keyed};
+ghost use Rattle.record_judge.specs.Record.{nowhere, outsideIn, verdict, judgedBy, judgedAs, judged, storedOf, Puts};
+ghost use Rattle.record_judge.specs.Keyed.{keyed, livestockOutside};
 
 // The width of a mark, the offsets of the key's bytes after it, and the place that stands for "not found".
 const MARK: usize = 2;
@@ -54,6 +57,7 @@ pub fn judge(posted: &[u8]) -> Judged
         rows::DR => judge_dr(posted),
         rows::PE => judge_pe(posted),
         rows::MT => judge_mt(posted),
+        rows::LD => judge_ld(posted),
         _ => refused(refusals::UNKNOWN_MARK, 0),
     }
 }
@@ -64,11 +68,14 @@ fn refused(number: u8, place: usize) -> Judged
     Judged::Refused(Refusal { number, place })
 }
 
-// The sixteen bytes that a record puts into its slot: those that came.
+// The sixteen bytes that a record puts into its slot: those that came, or those of the LN that a defaults line stands for.
 pub fn stored(posted: &[u8]) -> [u8; record_table::RECORD]
-    requires { ⌜ length (now posted) ≡ recordBytes ⌝ }
+    requires { ⌜ Puts (now posted) ⌝ }
     ensures { λ r. ⌜ r ≡ storedOf (now (posted .entry)) ⌝ }
 {
+    if number_bytes::number(posted, 0, MARK) == rows::LD {
+        return record_defaults::line(posted);
+    }
     let mut record = [0u8; record_table::RECORD];
     bytes::copy(posted, &mut record);
     record
@@ -98,11 +105,7 @@ fn line_outside(posted: &[u8]) -> usize
     requires { ⌜ length (now posted) ≡ recordBytes ⌝ }
     ensures { λ r. ⌜ r ≡ outsideIn 3 (drop 1 (entriesOf ln)) (now (posted .entry)) ⌝ }
 {
-    let conversion = record_fields::outside(
-        posted,
-        conversion_field(posted[rows::LN_SYSTEM_AT]),
-        NOWHERE,
-    );
+    let conversion = conversion_outside(posted, rows::LN_CONVERSION_FACTOR_AT);
     let b0 = record_fields::outside(posted, rows::LN_B0, conversion);
     let share = record_fields::outside(posted, rows::LN_SHARE, b0);
     let mass = record_fields::outside(posted, rows::LN_MASS, share);
@@ -157,6 +160,55 @@ fn judge_mt(posted: &[u8]) -> Judged
     keyed_by_two(posted, record_table::MT, zero, destroyed)
 }
 
+// A defaults line has LN's key (02, (i)).
+fn judge_ld(posted: &[u8]) -> Judged
+    requires { ⌜ length (now posted) ≡ recordBytes ⌝ }
+    ensures { λ r. ⌜ r ≡ judgedBy (defaultsEntries (now (posted .entry))) ln (now (posted .entry)) ⌝ }
+{
+    let last = record_fields::nonzero(posted, rows::LD_LAST_ZEROS, NOWHERE);
+    let zero = record_fields::nonzero(posted, rows::LD_FIRST_ZERO, last);
+    keyed_by_one(posted, record_table::LN, zero, defaults_outside(posted))
+}
+
+fn defaults_outside(posted: &[u8]) -> usize
+    requires { ⌜ length (now posted) ≡ recordBytes ⌝ }
+    ensures { λ r. ⌜ r ≡ outsideIn 3 (drop 1 (defaultsEntries (now (posted .entry)))) (now (posted .entry)) ⌝ }
+{
+    let conversion = conversion_outside(posted, record_defaults::CONVERSION_FACTOR_AT);
+    let share = record_fields::outside(posted, rows::LD_SHARE, conversion);
+    let livestock = livestock_outside(posted, share);
+    let category = record_fields::outside(posted, rows::LN_CATEGORY, livestock);
+    record_fields::outside(posted, rows::LN_SYSTEM, category)
+}
+
+// A livestock that Table A.2 lacks is outside whatever the state; one that it has tells which states there are.
+fn livestock_outside(posted: &[u8], later: usize) -> usize
+    requires { ⌜ length (now posted) ≡ recordBytes ⌝ }
+    ensures { λ r. ⌜ r ≡ livestockOutside (now (posted .entry)) later ⌝ }
+{
+    let livestock = posted[record_defaults::LIVESTOCK_AT];
+    if !is_livestock(livestock) {
+        return record_defaults::LIVESTOCK_AT;
+    }
+    record_fields::outside(posted, state_field(livestock), later)
+}
+
+fn is_livestock(livestock: u8) -> bool
+    ensures { λ r. ⌜ r ≡ (leb 1 livestock && leb livestock livestocks) ⌝ }
+{
+    1 <= livestock && livestock <= record_defaults::LIVESTOCK as u8
+}
+
+fn state_field(livestock: u8) -> Field
+    requires { ⌜ Livestock livestock ⌝ }
+    ensures { λ r. ⌜ (r .0 ≡ stateAt) × (r .1 ≡ 1) × (r .2 ≡ lowestState livestock) × (r .3 ≡ highestState livestock) ⌝ }
+{
+    if record_defaults::asks_state(livestock) {
+        return rows::LD_STATE;
+    }
+    rows::LD_NO_STATE
+}
+
 // A record whose key has one byte, or two, each from 1 on: by the place of a zero byte that is not 0, and that of a field after the key that is outside its
 // range.
 fn keyed_by_one(posted: &[u8], key: One, nonzero: usize, outside: usize) -> Judged
@@ -207,14 +259,31 @@ fn verdict_on(nonzero: usize, outside: usize, slot: usize) -> Judged
     Judged::Put(slot)
 }
 
+// The offset of a line's conversion factor that is outside its range, or the place that stands for "not found".
+fn conversion_outside(posted: &[u8], at: usize) -> usize
+    requires { ⌜ (length (now posted) ≡ recordBytes) × (at + 2 ≤ recordBytes) ⌝ }
+    ensures { λ r. ⌜ r ≡ outsideAt (now (posted .entry)) at 2 (unless 3 10000) nowhere ⌝ }
+{
+    record_fields::outside(
+        posted,
+        Field(
+            at,
+            rows::CONVERSION_FACTOR_BYTES,
+            0,
+            most_conversion(posted[rows::LN_SYSTEM_AT]),
+        ),
+        NOWHERE,
+    )
+}
+
 // An anaerobic line's conversion factor is only 0.
-fn conversion_field(system: u8) -> Field
-    ensures { λ r. ⌜ (r .0 ≡ 14) × (r .1 ≡ 2) × (r .2 ≡ 0) × (r .3 ≡ cond (eqb system 0) 0 10000) ⌝ }
+fn most_conversion(system: u8) -> u64
+    ensures { λ r. ⌜ r ≡ cond (eqb system 0) 0 10000 ⌝ }
 {
     if system == ANAEROBIC {
-        return rows::LN_ANAEROBIC_CONVERSION_FACTOR;
+        return 0;
     }
-    rows::LN_CONVERSION_FACTOR
+    rows::MOST_CONVERSION_FACTOR
 }
 
 // The offset of a temperature that is outside its range, or the place that stands for "not found".

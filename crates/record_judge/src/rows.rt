@@ -1,4 +1,4 @@
-// 01's table of the records in code: the mark of each row, and what stands after it, in order.
+// The table of the records in code: each mark, and what stands after it, in order.
 use record_fields::Field;
 use record_fields::Zeros;
 
@@ -16,6 +16,8 @@ pub const DR: u64 = b'D' as u64 + 256 * (b'R' as u64);
 pub const PE: u64 = b'P' as u64 + 256 * (b'E' as u64);
 
 pub const MT: u64 = b'M' as u64 + 256 * (b'T' as u64);
+
+pub const LD: u64 = b'L' as u64 + 256 * (b'D' as u64);
 
 // The entries of each mark after its key, in the order of the paper's table. YR
 pub const YR_FIRST_YEAR: Field = Field(2, 2, 2000, 2089);
@@ -43,9 +45,11 @@ pub const LN_B0: Field = Field(12, 1, 0, 100);
 
 pub const LN_SECOND_ZERO: Zeros = Zeros(13, 1);
 
-pub const LN_CONVERSION_FACTOR: Field = Field(14, 2, 0, 10000);
+pub const LN_CONVERSION_FACTOR_AT: usize = 14;
 
-pub const LN_ANAEROBIC_CONVERSION_FACTOR: Field = Field(14, 2, 0, 0);
+pub const CONVERSION_FACTOR_BYTES: usize = 2;
+
+pub const MOST_CONVERSION_FACTOR: u64 = 10000;
 
 // HD
 pub const HD_HEAD: Field = Field(4, 4, 0, 100000);
@@ -83,3 +87,26 @@ pub const PE_PROJECT_CO2: Field = Field(12, 4, 0, ALL_OF_U32);
 pub const MT_DESTROYED: Field = Field(4, 8, 0, 1_000_000_000_000);
 
 pub const MT_ZEROS: Zeros = Zeros(12, 4);
+
+// LD, whose system and category stand and range as LN's do
+pub const LD_LIVESTOCK: Field = Field(
+    record_defaults::LIVESTOCK_AT,
+    1,
+    1,
+    record_defaults::LIVESTOCK as u64,
+);
+
+pub const LD_STATE: Field = Field(
+    record_defaults::STATE_AT,
+    1,
+    1,
+    record_defaults::STATES as u64,
+);
+
+pub const LD_NO_STATE: Field = Field(record_defaults::STATE_AT, 1, 0, 0);
+
+pub const LD_FIRST_ZERO: Zeros = Zeros(7, 1);
+
+pub const LD_SHARE: Field = Field(record_defaults::SHARE_AT, 2, 0, 10000);
+
+pub const LD_LAST_ZEROS: Zeros = Zeros(12, 4);

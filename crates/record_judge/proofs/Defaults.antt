@@ -1,0 +1,58 @@
+-- A defaults line whose fields are in their ranges names a livestock and a state of the tables, and the LN that it stands for is a record of LN's row that
+-- is put into the slot of its line. Assumes nothing.
+use mathlib.Core.Path.{_≡_, refl, sym, ap, _∙_, subst}
+use mathlib.Core.Bool.{true, false}
+use mathlib.Core.List.{List, [], _∷_}
+use Prim.Native.Nat.{ℕ, _+_, _*_, _/_, _%_, _≤_}
+use native.Mathlib.Omega.{arith}
+use lib.ListN.{length, getD}
+use Rattle.number_bytes.specs.Number.{numberAt}
+use Rattle.record_table.specs.Table.{Range, ln, entriesOf, recordBytes, afterMark}
+use Rattle.record_table.specs.Slot.{slotOf}
+use Rattle.record_fields.specs.Entry.{inRange, nonzeroAt}
+use Rattle.record_defaults.specs.Tables.{massOf, b0Of, solidsOf, livestocks, lowestState, highestState}
+use Rattle.record_defaults.specs.Defaults.{livestockAt, stateAt, isDefaults, defaultsEntries, Named, lineOf}
+use Rattle.record_defaults.proofs.Inside.{lineRange, solidsAt, massAt, b0At, mass-inside, b0-inside, solids-inside}
+use Rattle.record_judge.specs.Record.{nowhere, nonzeroIn, outsideIn, keyIn, rowIn, rowOf, keyOf, verdict, judgedAs, judged}
+use Rattle.record_judge.specs.declared.Judged.the-variants.{Put}
+use Rattle.record_judge.proofs.Entries.{Ranged, none-outside, within-byte}
+use Rattle.record_judge.proofs.Marks.{by-row}
+
+-- a number is made again by its two bytes, and by one
+two : (n : ℕ) → n % 256 + 256 * (n / 256 + 256 * 0) ≡ n
+two n = omega arith
+
+one : (n : ℕ) → n + 256 * 0 ≡ n
+one n = omega arith
+
+pub line-long : (r : List ℕ) → length (lineOf r) ≡ recordBytes
+unfolding lineOf
+line-long r = refl
+
+pub line-own : (r : List ℕ) → isDefaults (lineOf r) ≡ false
+unfolding isDefaults numberAt lineOf
+line-own r = refl
+
+module _ (r : List ℕ) (g : Ranged afterMark (defaultsEntries r) r) where
+  pub named : Named r
+  named = (within-byte r livestockAt 1 livestocks (g .1 .1 .1 .0), within-byte r stateAt (lowestState (getD r livestockAt 0)) (highestState (getD r livestockAt 0)) (g .1 .1 .1 .1 .0))
+
+  read : (range : Range) {m n : ℕ} → m ≡ n → inRange range (lineOf r) n ≡ true → inRange range (lineOf r) m ≡ true
+  read range e = subst (λ (x : ℕ). inRange range (lineOf r) x ≡ true) (sym e)
+
+  line-ranged : Ranged afterMark (entriesOf ln) (lineOf r)
+  unfolding numberAt inRange lineOf
+  line-ranged =
+      let livestock = getD r livestockAt 0 in
+      let state = getD r stateAt 0 in
+      let solids = read (lineRange solidsAt) (two (solidsOf livestock state)) (solids-inside livestock state (named .0) (named .1) (lineOf r)) in
+      let mass = read (lineRange massAt) (two (massOf livestock)) (mass-inside livestock (named .0) (lineOf r)) in
+      let b0 = read (lineRange b0At) (one (b0Of livestock)) (b0-inside livestock (named .0) (lineOf r)) in
+      let share = g .1 .1 .1 .1 .1 .0 in
+      let conversion = g .1 .1 .1 .1 .1 .1 .0 in
+      (g .0, (g .1 .0, (g .1 .1 .0, (solids, (mass, (share, (b0, (conversion, tt))))))))
+
+  -- it has its letters and no byte that must be 0 and is not, and so it is put into the slot of its line
+  pub line-judged : judged (lineOf r) ≡ Put (slotOf ln (keyOf ln r))
+  unfolding judged judgedAs verdict rowOf rowIn numberAt nonzeroIn nonzeroAt keyOf keyIn isDefaults lineOf
+  line-judged = rw (none-outside afterMark (entriesOf ln) (lineOf r) line-ranged)
