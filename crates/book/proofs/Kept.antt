@@ -15,9 +15,8 @@ use Rattle.record_table.specs.Slot.{slots}
 use Rattle.record_judge.specs.Record.{judged, storedOf}
 use Rattle.record_judge.specs.declared.Judged.{Judged}
 use Rattle.record_judge.specs.declared.Judged.the-variants.{Refused as RefusedRecord, Put, Empty}
-use Rattle.record_judge.proofs.Taken.{taken}
 use Rattle.record_judge.proofs.StoredBytes.{stored-long, stored-judged, stored-once}
-use Rattle.record_judge.proofs.Keys.{slot-below, emptied-below}
+use Rattle.record_judge.proofs.Keys.{put-below, emptied-below}
 use Rattle.book.specs.Book.{bookBytes, recordAt, free, nothing, bookWith, bookBy, answerOf, bookAfter, emptyBook}
 use Rattle.book.specs.Valid.{Stands, Valid}
 use Rattle.book.specs.Run.{onward, bookAll}
@@ -48,9 +47,8 @@ by : (book r : List ℕ) (found : Judged) → judged r ≡ found → Valid book 
 unfolding bookBy
 by book r (RefusedRecord x) e v = v
 by book r (Put k) e v =
-    let t = taken r k e in
     let stands : Stands k (storedOf r) = record { judged-so = stored-judged r k e; stored-so = stored-once r } in
-    either Valid (free book k) (with-valid book k (storedOf r) v (slot-below r k t) (stored-long r (t .long)) (inr stands)) v
+    either Valid (free book k) (with-valid book k (storedOf r) v (put-below r k e) (stored-long r k e) (inr stands)) v
 by book r (Empty k) e v = with-valid book k nothing v (emptied-below r k e) (length-replicate {A = ℕ} recordBytes 0) (inl refl)
 
 pub kept : (book r : List ℕ) → Valid book → Valid (bookAfter book r)

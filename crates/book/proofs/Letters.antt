@@ -14,7 +14,8 @@ use Rattle.number_bytes.specs.Number.{numberAt}
 use Rattle.record_table.specs.Slot.{slots}
 use Rattle.record_judge.specs.Record.{rowIn, rowOf, judged}
 use Rattle.record_judge.specs.declared.Judged.the-variants.{Put}
-use Rattle.record_judge.proofs.Taken.{taken}
+use Rattle.record_defaults.specs.Defaults.{defaultsLetters, isDefaults}
+use Rattle.record_judge.proofs.Taken.{row-put}
 use Rattle.book.specs.Book.{recordAt, free, nothing}
 use Rattle.book.specs.Valid.{Stands, Valid}
 use Rattle.book.proofs.Free.{first-byte, empty-free}
@@ -43,13 +44,25 @@ first-letter : (row : ℕ) → row < length table → getD table row noRow .lett
 unfolding lettered each
 first-letter row h = not-zero _ (eqb (getD table row noRow .letters % 256) 0) refl (at lettered (length table) tt row h)
 
-pub starts : (r : List ℕ) (k : ℕ) → judged r ≡ Put k → getD r 0 0 ≡ 0 → ⊥
+row-start : (r : List ℕ) → rowOf r < length table → getD r 0 0 ≡ 0 → ⊥
 unfolding rowOf numberAt
-starts r k e z =
+row-start r h z =
     let w = getD r 0 0 + 256 * (getD r 1 0 + 256 * 0) in
-    let h = taken r k e .row in
     let f : getD table (rowIn w table) noRow .letters ≡ w = found w table h in
     first-letter (rowIn w table) h (ap (λ (n : ℕ). n % 256) f ∙ omega arith)
+
+-- nor is LD's
+defaults-start : (r : List ℕ) → isDefaults r ≡ true → getD r 0 0 ≡ 0 → ⊥
+unfolding isDefaults numberAt
+defaults-start r d z =
+    omega (arith, eqb-true (getD r 0 0 + 256 * (getD r 1 0 + 256 * 0)) defaultsLetters d, z)
+
+pub starts : (r : List ℕ) (k : ℕ) → judged r ≡ Put k → getD r 0 0 ≡ 0 → ⊥
+starts r k e z = go (isDefaults r) refl
+  where
+    go : (b : Bool) → isDefaults r ≡ b → ⊥
+    go true d = defaults-start r d z
+    go false d = row-start r (row-put r k e d .row) z
 
 -- so a slot that holds a record is filled, and in a book one that is free is empty, and one that is filled holds what posting puts there
 pub held-filled : (book : List ℕ) (k j : ℕ) → judged (recordAt book k) ≡ Put j → free book k ≡ false

@@ -11,7 +11,7 @@ use Rattle.record_table.specs.Table.{recordBytes}
 use Rattle.record_judge.specs.Record.{judged}
 use Rattle.record_judge.specs.declared.Judged.{Judged}
 use Rattle.record_judge.specs.declared.Judged.the-variants.{Refused as RefusedRecord, Put, Empty}
-use Rattle.record_judge.proofs.Taken.{taken, never-empties}
+use Rattle.record_judge.proofs.Taken.{put-long, never-empties}
 use Rattle.book.specs.Book.{free, answerBy, answerOf}
 use Rattle.book.specs.declared.Posted.the-variants.{Taken, Refused}
 
@@ -29,7 +29,7 @@ was-free book k = go (free book k)
 whole-by : (book r : List ℕ) (found : Judged) → judged r ≡ found → answerBy book found ≡ Taken → length r ≡ recordBytes
 unfolding answerBy
 whole-by book r (RefusedRecord x) e t = not-taken t
-whole-by book r (Put k) e t = taken r k e .long
+whole-by book r (Put k) e t = put-long r k e
 whole-by book r (Empty k) e t = absurd (never-empties r k e)
 
 pub whole : (book r : List ℕ) → answerOf book r ≡ Taken → length r ≡ recordBytes

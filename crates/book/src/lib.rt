@@ -6,6 +6,7 @@ ghost use Prim.Native.Nat.{_+_, _<_, min};
 ghost use lib.ListN.{length};
 ghost use Rattle.record_table.specs.Table.{recordBytes};
 ghost use Rattle.record_table.specs.Slot.{slots};
+ghost use Rattle.record_judge.specs.Record.{judged};
 ghost use Rattle.record_judge.specs.declared.Judged.the-variants.{Put};
 ghost use Rattle.book.specs.declared.Posted.the-variants.{Taken};
 ghost use Rattle.book.specs.Book.{bookBytes, nothing, bookWith, answerBy, bookBy, answerOf, bookAfter, emptyBook};
@@ -47,7 +48,7 @@ pub fn post(book: &mut [u8], posted: &[u8]) -> Posted
 
 // Puts a record's bytes into a slot that is not filled.
 fn put(book: &mut [u8], slot: usize, posted: &[u8]) -> Posted
-    requires { ⌜ (length (now book) ≡ bookBytes) × (slot < slots) × (length (now posted) ≡ recordBytes) ⌝ }
+    requires { ⌜ (length (now book) ≡ bookBytes) × (slot < slots) × (judged (now posted) ≡ Put slot) ⌝ }
     ensures { λ r. ⌜ r ≡ answerBy (now (book .entry)) (Put slot) ⌝ }
     ensures { λ _. ⌜ now (book .exit) ≡ bookBy (now (book .entry)) (now (posted .entry)) (Put slot) ⌝ }
 {

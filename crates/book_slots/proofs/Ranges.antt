@@ -13,7 +13,7 @@ use Rattle.number_bytes.specs.Number.{signedOf}
 use Rattle.record_table.specs.Slot.{slotOf}
 use Rattle.record_table.proofs.Slots.{Low}
 use Rattle.record_fields.specs.Entry.{inRange}
-use Rattle.record_judge.proofs.Keys.{both, within}
+use Rattle.record_judge.proofs.Entries.{both, within}
 use Rattle.book.specs.Book.{recordAt}
 use Rattle.book.specs.Valid.{Valid}
 use Rattle.book_slots.specs.Field.{seenAt, numberOf, seenOf, filledOf}

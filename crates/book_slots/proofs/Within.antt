@@ -15,7 +15,7 @@ use Rattle.record_table.specs.Slot.{slots, slotOf}
 use Rattle.record_table.proofs.Slots.{Low, among, among-all, one-row}
 use Rattle.record_fields.specs.Entry.{inRange}
 use Rattle.record_judge.specs.Record.{rowOf}
-use Rattle.record_judge.proofs.Taken.{taken}
+use Rattle.record_judge.proofs.StoredBytes.{taken-itself}
 use Rattle.record_judge.proofs.Entries.{Ranged}
 use Rattle.record_judge.proofs.Keys.{there, fields}
 use Rattle.book.specs.Book.{recordAt, free, nothing}
@@ -81,7 +81,7 @@ module _ (book : List ℕ) (v : Valid book) (row : ℕ) (h : row < length table)
   its-fields : filledOf book row bytes ≡ true → Ranged afterMark (entriesOf row) (recordAt book (slotOf row bytes))
   its-fields f =
       let e = filled-held book (slotOf row bytes) v below (not-true (free book (slotOf row bytes)) f) in
-      let t = taken (recordAt book (slotOf row bytes)) (slotOf row bytes) (e .judged-so) in
+      let t = taken-itself (recordAt book (slotOf row bytes)) (slotOf row bytes) (e .judged-so) (e .stored-so) in
       let same = one-row (rowOf (recordAt book (slotOf row bytes))) row (slotOf row bytes) (there (recordAt book (slotOf row bytes)) (slotOf row bytes) t) (among row h bytes low) in
       subst (λ (m : ℕ). Ranged afterMark (entriesOf m) (recordAt book (slotOf row bytes))) same (fields (recordAt book (slotOf row bytes)) (slotOf row bytes) t)
 

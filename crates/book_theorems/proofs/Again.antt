@@ -15,9 +15,9 @@ use Rattle.record_judge.specs.Record.{judged, storedOf}
 use Rattle.record_judge.specs.declared.Judged.{Judged}
 use Rattle.record_judge.specs.declared.Judged.the-variants.{Refused as RefusedRecord, Put, Empty}
 use Rattle.record_judge.proofs.Marks.{short}
-use Rattle.record_judge.proofs.Taken.{taken, never-empties}
+use Rattle.record_judge.proofs.Taken.{never-empties}
 use Rattle.record_judge.proofs.StoredBytes.{stored-long, stored-judged}
-use Rattle.record_judge.proofs.Keys.{slot-below}
+use Rattle.record_judge.proofs.Keys.{put-below}
 use Rattle.book.specs.Book.{free, bookWith, answerBy, bookBy, answerOf, bookAfter}
 use Rattle.book.specs.Valid.{Valid}
 use Rattle.book.specs.declared.Posted.the-variants.{Taken, Refused}
@@ -53,10 +53,9 @@ module _ (book s : List ℕ) (v : Valid book) where
   stays-by : (k j : ℕ) → k < slots → free book k ≡ false → judged s ≡ Put j → (b : Bool) → free book j ≡ b → free (cond b (bookWith book j (storedOf s)) book) k ≡ false
   stays-by k j h full e false f = full
   stays-by k j h full e true f =
-      let t = taken s j e in
       ⊎-elim
       (λ same. absurd (true≢false (sym f ∙ ap (free book) (sym same) ∙ full)))
-      (λ other. free-same (bookWith book j (storedOf s)) book k (slot-other book j (storedOf s) (v .size) (slot-below s j t) (stored-long s (t .long)) k h other) ∙ full)
+      (λ other. free-same (bookWith book j (storedOf s)) book k (slot-other book j (storedOf s) (v .size) (put-below s j e) (stored-long s j e) k h other) ∙ full)
       (same-or-not k j (eqb k j) refl)
 
   stays-as : (k : ℕ) → k < slots → free book k ≡ false → (found : Judged) → judged s ≡ found → free (bookBy book s found) k ≡ false
@@ -73,8 +72,7 @@ module _ (book s : List ℕ) (v : Valid book) where
   fills-by : (k : ℕ) → judged s ≡ Put k → (b : Bool) → free book k ≡ b → free (cond b (bookWith book k (storedOf s)) book) k ≡ false
   fills-by k e false f = f
   fills-by k e true f =
-      let t = taken s k e in
-      held-filled (bookWith book k (storedOf s)) k k (ap judged (slot-same book k (storedOf s) (v .size) (slot-below s k t) (stored-long s (t .long))) ∙ stored-judged s k e)
+      held-filled (bookWith book k (storedOf s)) k k (ap judged (slot-same book k (storedOf s) (v .size) (put-below s k e) (stored-long s k e)) ∙ stored-judged s k e)
 
   fills : (k : ℕ) → judged s ≡ Put k → free (bookAfter book s) k ≡ false
   unfolding bookAfter bookBy
@@ -90,7 +88,7 @@ module _ (book s : List ℕ) (v : Valid book) where
 
   still : {r : List ℕ} → Spent book r → Spent (bookAfter book s) r
   still (refused x e) = refused x e
-  still {r} (filled k e f) = filled k e (stays k (slot-below r k (taken r k e)) f)
+  still {r} (filled k e f) = filled k e (stays k (put-below r k e) f)
 
 still-each : (book : List ℕ) → Valid book → (ss : List (List ℕ)) {r : List ℕ} → Spent book r → Spent (bookEach book ss) r
 unfolding bookEach
@@ -110,19 +108,24 @@ spent book v (s ∷ rs) r m =
 pub refused-again : (book : List ℕ) → Valid book → (rs : List (List ℕ)) (r : List ℕ) → List·Memᴰ r rs → Turned (bookEach book rs) r
 refused-again book v rs r m = turned (spent book v rs r m)
 
--- and one that was taken is refused 5, whatever was posted since
+-- and after one that was taken, it and every other record of its slot are refused 5, whatever was posted since
 stays-each : (book : List ℕ) → Valid book → (ss : List (List ℕ)) (k : ℕ) → k < slots → free book k ≡ false → free (bookEach book ss) k ≡ false
 unfolding bookEach
 stays-each book v [] k h full = full
 stays-each book v (s ∷ ss) k h full = stays-each (bookAfter book s) (kept book s v) ss k h (stays book s v k h full)
 
-pub taken-again :
-    (book : List ℕ) → Valid book → (r : List ℕ) → answerOf book r ≡ Taken → (ss : List (List ℕ)) → answerOf (bookEach (bookAfter book r) ss) r ≡ Refused (refusal alreadyFilled 0)
+pub slot-again :
+    (book : List ℕ) → Valid book → (r s : List ℕ) → answerOf book r ≡ Taken → judged s ≡ judged r → (ss : List (List ℕ)) →
+    answerOf (bookEach (bookAfter book r) ss) s ≡ Refused (refusal alreadyFilled 0)
 unfolding answerOf answerBy
-taken-again book v r taken ss =
+slot-again book v r s taken same ss =
     let own = taken-fills book r (v .size) taken in
     let full = stays-each (bookAfter book r) (kept book r v) ss (own .slot) (own .there .below) (fills book r v (own .slot) (own .judged-so)) in
-    ap (answerBy (bookEach (bookAfter book r) ss)) (own .judged-so) ∙ ap (λ (b : Bool). cond b Taken (Refused (refusal alreadyFilled 0))) full
+    ap (answerBy (bookEach (bookAfter book r) ss)) (same ∙ own .judged-so) ∙ ap (λ (b : Bool). cond b Taken (Refused (refusal alreadyFilled 0))) full
+
+pub taken-again :
+    (book : List ℕ) → Valid book → (r : List ℕ) → answerOf book r ≡ Taken → (ss : List (List ℕ)) → answerOf (bookEach (bookAfter book r) ss) r ≡ Refused (refusal alreadyFilled 0)
+taken-again book v r taken ss = slot-again book v r r taken refl ss
 
 -- so any of them, in any order, any number of times, leave the same book
 again : (book : List ℕ) (ss : List (List ℕ)) → ((s : List ℕ) → List·Memᴰ s ss → bookAfter book s ≡ book) → bookEach book ss ≡ book

@@ -1,4 +1,5 @@
 pub mod Again
+pub mod Defaults
 pub mod Keys
 pub mod Log
 pub mod Made

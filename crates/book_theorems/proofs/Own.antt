@@ -12,9 +12,9 @@ use Rattle.record_table.specs.Slot.{slots}
 use Rattle.record_judge.specs.Record.{judged, storedOf}
 use Rattle.record_judge.specs.declared.Judged.{Judged}
 use Rattle.record_judge.specs.declared.Judged.the-variants.{Refused as RefusedRecord, Put, Empty}
-use Rattle.record_judge.proofs.Taken.{taken, never-empties}
+use Rattle.record_judge.proofs.Taken.{never-empties}
 use Rattle.record_judge.proofs.StoredBytes.{stored-long}
-use Rattle.record_judge.proofs.Keys.{slot-below, emptied-below}
+use Rattle.record_judge.proofs.Keys.{put-below, emptied-below}
 use Rattle.book.specs.Book.{bookBytes, recordAt, free, nothing, bookWith, answerBy, bookBy, answerOf, bookAfter}
 use Rattle.book.specs.declared.Posted.the-variants.{Taken, Refused}
 use Rattle.book.proofs.Slot.{slot-same, slot-other}
@@ -68,10 +68,9 @@ does-by : (book r : List ℕ) → length book ≡ bookBytes → (found : Judged)
 unfolding answerBy bookBy bookAfter
 does-by book r size (RefusedRecord x) e t = not-taken t
 does-by book r size (Put k) e t =
-    let i = taken r k e in
     let was = was-free book k t in
     let after = ap (bookBy book r) e ∙ ap (λ (b : Bool). cond b (bookWith book k (storedOf r)) book) was in
-    inl (record { slot = k; judged-so = e; was-free = was; there = leaves book r (storedOf r) k size (slot-below r k i) (stored-long r (i .long)) after })
+    inl (record { slot = k; judged-so = e; was-free = was; there = leaves book r (storedOf r) k size (put-below r k e) (stored-long r k e) after })
 does-by book r size (Empty k) e t =
     inr (record { slot = k; judged-so = e; there = leaves book r nothing k size (emptied-below r k e) (length-replicate {A = ℕ} recordBytes 0) (ap (bookBy book r) e) })
 
@@ -97,8 +96,8 @@ module _ (a b r : List ℕ) (k : ℕ) (e : judged r ≡ Put k) (same : recordAt 
   pub leaves-there : length a ≡ bookBytes → length b ≡ bookBytes → recordAt (bookAfter a r) k ≡ recordAt (bookAfter b r) k
   unfolding bookAfter bookBy
   leaves-there la lb =
-      let h = slot-below r k (taken r k e) in
-      let long = stored-long r (taken r k e .long) in
+      let h = put-below r k e in
+      let long = stored-long r k e in
       ap (λ (l : List ℕ). recordAt l k) (ap (bookBy a r) e ∙ ap (λ (f : Bool). cond f (bookWith a k (storedOf r)) a) (free-same a b k same))
       ∙ go (free b k) (slot-same a k (storedOf r) la h long ∙ sym (slot-same b k (storedOf r) lb h long))
       ∙ sym (ap (λ (l : List ℕ). recordAt l k) (ap (bookBy b r) e))

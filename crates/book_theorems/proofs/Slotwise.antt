@@ -13,9 +13,8 @@ use Rattle.record_table.specs.Slot.{slots}
 use Rattle.record_judge.specs.Record.{judged, storedOf}
 use Rattle.record_judge.specs.declared.Judged.{Judged}
 use Rattle.record_judge.specs.declared.Judged.the-variants.{Refused as RefusedRecord, Put, Empty}
-use Rattle.record_judge.proofs.Taken.{taken}
 use Rattle.record_judge.proofs.StoredBytes.{stored-long}
-use Rattle.record_judge.proofs.Keys.{slot-below, emptied-below}
+use Rattle.record_judge.proofs.Keys.{put-below, emptied-below}
 use Rattle.book.specs.Book.{recordAt, free, nothing, bookWith, bookBy, bookAfter}
 use Rattle.book.specs.Valid.{Valid}
 use Rattle.book.proofs.Slot.{slot-same, slot-other}
@@ -70,8 +69,7 @@ module _ (book r : List ℕ) (v : Valid book) (k : ℕ) (h : k < slots) where
   unfolding bookBy heldBy
   by (RefusedRecord x) e = refl
   by (Put j) e =
-      let t = taken r j e in
-      into book (storedOf r) v (stored-long r (t .long)) k h (free book) j (slot-below r j t) (eqb j k) refl
+      into book (storedOf r) v (stored-long r j e) k h (free book) j (put-below r j e) (eqb j k) refl
       ∙ ap (λ (b : Bool). cond (eqb j k && b) (storedOf r) (recordAt book k)) (free-bare book k)
   by (Empty j) e =
       into book nothing v (length-replicate {A = ℕ} recordBytes 0) k h (λ i. true) j (emptied-below r j e) (eqb j k) refl

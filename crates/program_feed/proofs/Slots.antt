@@ -10,8 +10,8 @@ use Rattle.record_table.specs.Slot.{slots}
 use Rattle.record_judge.specs.Record.{judged, storedOf}
 use Rattle.record_judge.specs.declared.Judged.{Judged}
 use Rattle.record_judge.specs.declared.Judged.the-variants.{Refused as RefusedRecord, Put, Empty}
-use Rattle.record_judge.proofs.Keys.{slot-below}
-use Rattle.record_judge.proofs.Taken.{taken, never-empties}
+use Rattle.record_judge.proofs.Keys.{put-below}
+use Rattle.record_judge.proofs.Taken.{never-empties}
 use Rattle.record_judge.proofs.StoredBytes.{stored-long, stored-judged}
 use Rattle.book.specs.Book.{free, bookWith, answerBy, bookBy, answerOf, bookAfter}
 use Rattle.book.specs.Run.{onward, answerAll, bookAll}
@@ -59,8 +59,8 @@ unfolding answerBy bookBy freeSlots
 by book r (RefusedRecord x) e v t = not-taken t
 by book r (Empty k) e v t = absurd (never-empties r k e)
 by book r (Put k) e v t =
-    let below = slot-below r k (taken r k e) in
-    let long = stored-long r (taken r k e .long) in
+    let below = put-below r k e in
+    let long = stored-long r k e in
     let f = was-free book k t in
     rw f
     (one-less (free book) (free (bookWith book k (storedOf r))) k f

@@ -5,13 +5,14 @@ use mathlib.Core.Bool.{true, false}
 use mathlib.Core.List.{List, [], _∷_}
 use Prim.Native.Nat.{ℕ, _+_, _*_, _/_, _%_, _≤_}
 use native.Mathlib.Omega.{arith}
+use borrow.Author.Tests.{eqb-true}
 use lib.ListN.{length, getD}
 use Rattle.number_bytes.specs.Number.{numberAt}
-use Rattle.record_table.specs.Table.{Range, ln, entriesOf, recordBytes, afterMark}
+use Rattle.record_table.specs.Table.{Range, table, ln, entriesOf, recordBytes, afterMark}
 use Rattle.record_table.specs.Slot.{slotOf}
 use Rattle.record_fields.specs.Entry.{inRange, nonzeroAt}
 use Rattle.record_defaults.specs.Tables.{massOf, b0Of, solidsOf, livestocks, lowestState, highestState}
-use Rattle.record_defaults.specs.Defaults.{livestockAt, stateAt, isDefaults, defaultsEntries, Named, lineOf}
+use Rattle.record_defaults.specs.Defaults.{livestockAt, stateAt, defaultsLetters, isDefaults, defaultsEntries, Named, lineOf}
 use Rattle.record_defaults.proofs.Inside.{lineRange, solidsAt, massAt, b0At, mass-inside, b0-inside, solids-inside}
 use Rattle.record_judge.specs.Record.{nowhere, nonzeroIn, outsideIn, keyIn, rowIn, rowOf, keyOf, verdict, judgedAs, judged}
 use Rattle.record_judge.specs.declared.Judged.the-variants.{Put}
@@ -19,11 +20,11 @@ use Rattle.record_judge.proofs.Entries.{Ranged, none-outside, within-by
 use Rattle.record_judge.proofs.Marks.{by-row}
 
 -- a number is made again by its two bytes, and by one
-two : (n : ℕ) → n % 256 + 256 * (n / 256 + 256 * 0) ≡ n
-two n = omega arith
+pub two-bytes : (n : ℕ) → n % 256 + 256 * (n / 256 + 256 * 0) ≡ n
+two-bytes n = omega arith
 
-one : (n : ℕ) → n + 256 * 0 ≡ n
-one n = omega arith
+pub one-byte : (n : ℕ) → n + 256 * 0 ≡ n
+one-byte n = omega arith
 
 pub line-long : (r : List ℕ) → length (lineOf r) ≡ recordBytes
 unfolding lineOf
@@ -32,6 +33,20 @@ line-long r = refl
 pub line-own : (r : List ℕ) → isDefaults (lineOf r) ≡ false
 unfolding isDefaults numberAt lineOf
 line-own r = refl
+
+-- no row of the table has the letters of LD
+pub defaults-rowless : (r : List ℕ) → isDefaults r ≡ true → rowOf r ≡ length table
+unfolding isDefaults rowOf rowIn
+defaults-rowless r d = ap (λ (letters : ℕ). rowIn letters table) (eqb-true (numberAt r 0 afterMark) defaultsLetters d)
+
+-- the LN has LN's row, and its key
+pub line-row : (r : List ℕ) → rowOf (lineOf r) ≡ ln
+unfolding rowOf rowIn numberAt lineOf
+line-row r = refl
+
+pub line-key : (r : List ℕ) → keyOf ln (lineOf r) ≡ keyOf ln r
+unfolding keyOf keyIn lineOf
+line-key r = refl
 
 module _ (r : List ℕ) (g : Ranged afterMark (defaultsEntries r) r) where
   pub named : Named r
@@ -45,9 +60,9 @@ module _ (r : List ℕ) (g : Ranged afterMark (defaultsEntries r) r) where
   line-ranged =
       let livestock = getD r livestockAt 0 in
       let state = getD r stateAt 0 in
-      let solids = read (lineRange solidsAt) (two (solidsOf livestock state)) (solids-inside livestock state (named .0) (named .1) (lineOf r)) in
-      let mass = read (lineRange massAt) (two (massOf livestock)) (mass-inside livestock (named .0) (lineOf r)) in
-      let b0 = read (lineRange b0At) (one (b0Of livestock)) (b0-inside livestock (named .0) (lineOf r)) in
+      let solids = read (lineRange solidsAt) (two-bytes (solidsOf livestock state)) (solids-inside livestock state (named .0) (named .1) (lineOf r)) in
+      let mass = read (lineRange massAt) (two-bytes (massOf livestock)) (mass-inside livestock (named .0) (lineOf r)) in
+      let b0 = read (lineRange b0At) (one-byte (b0Of livestock)) (b0-inside livestock (named .0) (lineOf r)) in
       let share = g .1 .1 .1 .1 .1 .0 in
       let conversion = g .1 .1 .1 .1 .1 .1 .0 in
       (g .0, (g .1 .0, (g .1 .1 .0, (solids, (mass, (share, (b0, (conversion, tt))))))))

@@ -43,6 +43,10 @@ rowOf r = rowIn (numberAt r 0 afterMark) table
 unfoldable pub keyOf : ℕ → List ℕ → List ℕ
 keyOf row r = keyIn afterMark (highestOf row) r
 
+-- the row whose key a record has: its own; a defaults line has LN's
+unfoldable pub keyRow : List ℕ → ℕ
+keyRow r = cond (isDefaults r) ln (rowOf r)
+
 -- a zero byte that is not 0 is refused at its offset; else a field outside its range is, at its offset; else the record is put into its slot
 unfoldable pub verdict : ℕ → ℕ → ℕ → Judged
 verdict nonzero outside slot =

@@ -51,6 +51,13 @@ pub const CONVERSION_FACTOR_BYTES: usize = 2;
 
 pub const MOST_CONVERSION_FACTOR: u64 = 10000;
 
+pub const LN_CONVERSION_FACTOR: Field = Field(
+    LN_CONVERSION_FACTOR_AT,
+    CONVERSION_FACTOR_BYTES,
+    0,
+    MOST_CONVERSION_FACTOR,
+);
+
 // HD
 pub const HD_HEAD: Field = Field(4, 4, 0, 100000);
 
@@ -89,13 +96,6 @@ pub const MT_DESTROYED: Field = Field(4, 8, 0, 1_000_000_000_000);
 pub const MT_ZEROS: Zeros = Zeros(12, 4);
 
 // LD, whose system and category stand and range as LN's do
-pub const LD_LIVESTOCK: Field = Field(
-    record_defaults::LIVESTOCK_AT,
-    1,
-    1,
-    record_defaults::LIVESTOCK as u64,
-);
-
 pub const LD_STATE: Field = Field(
     record_defaults::STATE_AT,
     1,

@@ -11,10 +11,10 @@ use Rattle.units.specs.Grams.{methane}
 use Rattle.number_bytes.specs.Number.{numberAt}
 use Rattle.record_table.specs.Slot.{count, index, total, slotOf}
 use Rattle.record_fields.specs.Entry.{inRange, outsideAt, nonzeroAt}
+use Rattle.record_defaults.specs.Defaults.{isDefaults}
 use Rattle.record_judge.specs.Record.{nonzeroIn, outsideIn, keyIn, rowIn, rowOf, keyOf, verdict, judgedAs, judged}
 use Rattle.record_judge.specs.declared.Judged.the-variants.{Put}
-use Rattle.record_judge.proofs.Taken.{taken}
-use Rattle.record_judge.proofs.Keys.{slot-below}
+use Rattle.record_judge.proofs.Keys.{put-below}
 use Rattle.book.specs.Book as Book
 use Rattle.book.specs.Book.{answerBy, emptyBook}
 use Rattle.book.specs.declared.Posted.the-variants.{Taken, Refused}
@@ -33,13 +33,13 @@ use Rattle.wrong_programs.proofs.Promise.{Answered}
 use Rattle.wrong_programs.proofs.Records.{yearRecord}
 
 year-judged : judged yearRecord ≡ Put 0
-unfolding judged judgedAs verdict rowOf rowIn keyOf keyIn nonzeroIn nonzeroAt outsideIn outsideAt inRange numberAt slotOf total index count
+unfolding judged judgedAs isDefaults verdict rowOf rowIn keyOf keyIn nonzeroIn nonzeroAt outsideIn outsideAt inRange numberAt slotOf total index count
 year-judged = refl
 
 pub year-taken : Book.answerOf emptyBook yearRecord ≡ Taken
 unfolding Book.answerOf answerBy
 year-taken =
-    let h = slot-below yearRecord 0 (taken yearRecord 0 year-judged) in
+    let h = put-below yearRecord 0 year-judged in
     ap (answerBy emptyBook) year-judged ∙ ap (λ (b : Bool). cond b Taken (Refused (refusal alreadyFilled 0))) (empty-free emptyBook 0 (empty-slot 0 h))
 
 -- 28 days of hours without readings, the device out in each

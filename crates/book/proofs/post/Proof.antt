@@ -1,16 +1,15 @@
 -- `book::post` meets its contract: by what the record alone decides. Assumes nothing.
 use mathlib.Core.Path.{sym, ap, _∙_}
 use borrow.Author.Needs.{needs}
-use Rattle.record_judge.proofs.Taken.{taken}
-use Rattle.record_judge.proofs.Keys.{slot-below, emptied-below}
+use Rattle.record_judge.proofs.Keys.{put-below, emptied-below}
 use Rattle.book.specs.Book.{answerBy, bookBy, answerOf, bookAfter}
 use Rattle.book.proofs.post.Statement.{statement}
 use Rattle.book.proofs.post.Tie as tie
 
 put-requires : tie.Need-put-requires
 put-requires c κs =
-    let t = taken _ _ (sym (c .before .before .before .before .judge .ensures) ∙ c .before .before .slot .given .1) in
-    (c .before .before .before .before .before .before .before .pre .size, slot-below _ _ t, t .long)
+    let e = sym (c .before .before .before .before .judge .ensures) ∙ c .before .before .slot .given .1 in
+    (c .before .before .before .before .before .before .before .pre .size, put-below _ _ e, e)
 
 clear-requires : tie.Need-clear-requires
 clear-requires c κs =

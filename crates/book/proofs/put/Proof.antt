@@ -24,7 +24,7 @@ put-spec =
     (λ c. search needs)
     (λ c. search needs)
     returns
-    (λ c κs. search needs)
+    (λ c κs. record { slot = c .before .before .before .before .args .slot; judged-so = c .before .before .before .before .pre .2 })
     (λ c. search needs)
     (λ c κs. search needs)
     (λ c. search needs)
