@@ -1,12 +1,15 @@
 //! Methane credits under California's livestock offset protocol, worked out a
-//! second time from paper 01 alone and by exact integers throughout.
+//! second time from papers 01 and 02 and the protocol alone, and by exact
+//! integers throughout.
 //!
-//! Months, lines, categories, devices and years count from 1, as in the paper.
+//! Months, lines, categories, devices, years and the rows of the protocol's
+//! tables count from 1, as in the papers.
 
 pub mod book;
 pub mod calendar;
 pub mod factor;
 pub mod lagoon;
+pub mod livestock;
 pub mod meter;
 pub mod months;
 mod needed;

@@ -1,7 +1,8 @@
-//! The records of paper 01: 16 bytes, a mark and its fields.
+//! The records of papers 01 and 02: 16 bytes, a mark and its fields.
 
 use std::ops::RangeInclusive;
 
+use crate::livestock::Livestock;
 use crate::refusal::{Reason, Refusal};
 
 pub const RECORD_BYTES: usize = 16;
@@ -27,7 +28,7 @@ pub enum System {
     },
 }
 
-/// LN: one category's manure in one system.
+/// LN, or the LN that an LD stands for: one category's manure in one system.
 #[derive(Clone, Copy, Debug, PartialEq, Eq)]
 pub struct Line {
     pub system: System,
@@ -83,6 +84,7 @@ impl Record {
             b"DR" => fields.drain(),
             b"PE" => fields.project(),
             b"MT" => fields.destroyed(),
+            b"LD" => fields.line_by_livestock(),
             _ => Err(Refusal::of(Reason::UnknownMark)),
         }
     }
@@ -105,20 +107,12 @@ impl Fields<'_> {
     fn line(&self) -> Result<Record, Refusal> {
         self.zero(5..=5)?;
         self.zero(13..=13)?;
-        let line = in_range(self.u8(2), LINE, 2)?;
-        let anaerobic = in_range(self.u8(3), 0..=1, 3)? == 0;
-        let category = in_range(self.u8(4), CATEGORY, 4)?;
+        let (line, anaerobic, category) = self.line_system_category()?;
         let table_solids = in_range(self.u16(6), 0..=2_000, 6)?;
         let mass = in_range(self.u16(8), 0..=20_000, 8)?;
-        let share = in_range(self.u16(10), 0..=10_000, 10)?;
+        let share = self.share(10)?;
         let b0 = in_range(self.u8(12), 0..=100, 12)?;
-        let most = if anaerobic { 0 } else { 10_000 };
-        let conversion_factor = in_range(self.u16(14), 0..=most, 14)?;
-        let system = if anaerobic {
-            System::Anaerobic
-        } else {
-            System::Other { conversion_factor }
-        };
+        let system = self.system(anaerobic, 14)?;
         Ok(Record::Line {
             line,
             fields: Line {
@@ -129,6 +123,54 @@ impl Fields<'_> {
                 share,
                 b0,
             },
+        })
+    }
+
+    /// LD: the LN with the protocol's values, and nothing else from then on
+    /// (paper 02, (i)).
+    fn line_by_livestock(&self) -> Result<Record, Refusal> {
+        self.zero(7..=7)?;
+        self.zero(12..=15)?;
+        let (line, anaerobic, category) = self.line_system_category()?;
+        let livestock = in_table(Livestock::of_row(self.u8(5)), 5)?;
+        let table_solids = in_table(livestock.table_solids(self.u8(6)), 6)?;
+        let share = self.share(8)?;
+        let system = self.system(anaerobic, 10)?;
+        Ok(Record::Line {
+            line,
+            fields: Line {
+                system,
+                category,
+                table_solids,
+                mass: livestock.mass,
+                share,
+                b0: livestock.b0,
+            },
+        })
+    }
+
+    /// What LN and LD start with: the line, whether its system is anaerobic,
+    /// and the category.
+    fn line_system_category(&self) -> Result<(u8, bool, u8), Refusal> {
+        let line = in_range(self.u8(2), LINE, 2)?;
+        let anaerobic = in_range(self.u8(3), 0..=1, 3)? == 0;
+        let category = in_range(self.u8(4), CATEGORY, 4)?;
+        Ok((line, anaerobic, category))
+    }
+
+    fn share(&self, offset: u16) -> Result<u16, Refusal> {
+        in_range(self.u16(offset.into()), 0..=10_000, offset)
+    }
+
+    /// The system with its conversion factor, which only 0 may be where the
+    /// system is anaerobic.
+    fn system(&self, anaerobic: bool, offset: u16) -> Result<System, Refusal> {
+        let most = if anaerobic { 0 } else { 10_000 };
+        let conversion_factor = in_range(self.u16(offset.into()), 0..=most, offset)?;
+        Ok(if anaerobic {
+            System::Anaerobic
+        } else {
+            System::Other { conversion_factor }
         })
     }
 
@@ -215,4 +257,8 @@ fn in_range<T: PartialOrd>(value: T, range: RangeInclusive<T>, offset: u16) -> R
     } else {
         Err(Refusal::at(Reason::OutsideRange, offset))
     }
+}
+
+fn in_table<T>(found: Option<T>, offset: u16) -> Result<T, Refusal> {
+    found.ok_or(Refusal::at(Reason::OutsideRange, offset))
 }

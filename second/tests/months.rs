@@ -80,7 +80,8 @@ fn a_line_that_is_not_anaerobic_has_no_months() {
 
 #[test]
 fn the_program_names_its_columns_and_prints_refusals_alone() {
-    let printed = |records: &[Bytes]| String::from_utf8(months(&records.concat()[..]).unwrap()).unwrap();
+    let printed =
+        |records: &[Bytes]| String::from_utf8(months(&records.concat()[..]).unwrap()).unwrap();
     let columns = "month temperature line entered degraded removed carried\n";
     assert_eq!(printed(&[]), columns);
     let worked = printed(&sample());

@@ -24,6 +24,11 @@ fn valid() -> Vec<Bytes> {
         dr(1, 1),
         pe(1, 1000, 0, 500),
         mt(1, 1, 2_000_000),
+        Ld {
+            line: 3,
+            ..LIVESTOCK_LINE_1
+        }
+        .bytes(),
     ]
 }
 
@@ -46,7 +51,7 @@ fn refusal_1_for_any_length_but_16() {
 
 #[test]
 fn refusal_2_for_every_other_mark() {
-    let known = [b"YR", b"LN", b"HD", b"TP", b"DR", b"PE", b"MT"];
+    let known = [b"YR", b"LN", b"HD", b"TP", b"DR", b"PE", b"MT", b"LD"];
     let mut record = [0; 16];
     for mark in 0..=u16::MAX {
         record[..2].copy_from_slice(&mark.to_be_bytes());
@@ -65,7 +70,8 @@ fn zero_offsets(record: &Bytes) -> Vec<usize> {
         b"TP" => std::iter::once(3).chain(6..16).collect(),
         b"DR" => (4..16).collect(),
         b"PE" => vec![3],
-        _ => (12..16).collect(),
+        b"MT" => (12..16).collect(),
+        _ => std::iter::once(7).chain(12..16).collect(),
     }
 }
 
@@ -98,6 +104,12 @@ fn refusal_4_just_outside_every_range_and_none_at_its_edges() {
         system: 1,
         ..LINE_1
     };
+    let swine = Ld {
+        system: 1,
+        livestock: 8,
+        state: 0,
+        ..LIVESTOCK_LINE_1
+    };
     let edges: &[(Bytes, usize, usize, i128, i128)] = &[
         (yr(2011, 1), 2, 2, 2000, 2089),
         (yr(2011, 1), 4, 1, 1, 12),
@@ -121,6 +133,14 @@ fn refusal_4_just_outside_every_range_and_none_at_its_edges() {
         (mt(1, 1, 2), 2, 1, 1, 120),
         (mt(1, 1, 2), 3, 1, 1, 4),
         (mt(1, 1, 2), 4, 8, 0, 1_000_000_000_000),
+        (LIVESTOCK_LINE_1.bytes(), 2, 1, 1, 32),
+        (LIVESTOCK_LINE_1.bytes(), 3, 1, 0, 1),
+        (LIVESTOCK_LINE_1.bytes(), 4, 1, 1, 16),
+        (LIVESTOCK_LINE_1.bytes(), 6, 1, 1, 50),
+        (LIVESTOCK_LINE_1.bytes(), 8, 2, 0, 10_000),
+        (LIVESTOCK_LINE_1.bytes(), 10, 2, 0, 0),
+        (swine.bytes(), 6, 1, 0, 0),
+        (swine.bytes(), 10, 2, 0, 10_000),
     ];
     for &(record, offset, width, lowest, highest) in edges {
         let answer = |value| posted(&put(record, offset, width, value));

@@ -62,6 +62,49 @@ impl Ln {
     }
 }
 
+/// The fields of LD, with dairy cows in California as the usual ones.
+#[derive(Clone, Copy)]
+pub struct Ld {
+    pub line: u8,
+    pub system: u8,
+    pub category: u8,
+    pub livestock: u8,
+    pub state: u8,
+    pub share: u16,
+    pub conversion_factor: u16,
+}
+
+pub const LIVESTOCK_LINE_1: Ld = Ld {
+    line: 1,
+    system: 0,
+    category: 1,
+    livestock: 1,
+    state: 5,
+    share: 10_000,
+    conversion_factor: 0,
+};
+
+impl Ld {
+    pub fn bytes(&self) -> Bytes {
+        let Ld {
+            line,
+            system,
+            category,
+            livestock,
+            state,
+            ..
+        } = *self;
+        with(
+            b"LD",
+            &[
+                (2, &[line, system, category, livestock, state]),
+                (8, &self.share.to_le_bytes()),
+                (10, &self.conversion_factor.to_le_bytes()),
+            ],
+        )
+    }
+}
+
 pub fn hd(category: u8, month: u8, head: u32) -> Bytes {
     with(b"HD", &[(2, &[category, month]), (4, &head.to_le_bytes())])
 }
