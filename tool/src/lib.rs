@@ -1,11 +1,16 @@
 //! A readable text of records and back: one record a line, its mark and then
-//! its fields in paper 01's order, zero bytes left out.
+//! its fields in the papers' order, zero bytes left out. A field whose numbers
+//! have names is written by name where its number has one.
 //!
 //! Any bytes have a text that leads back to them: what is not of the table's
 //! shape becomes a `raw` line of hex bytes.
 
+mod names;
+
 use std::fmt;
 use std::ops::RangeInclusive;
+
+use names::{Names, LIVESTOCK, STATES};
 
 const RECORD_BYTES: usize = 16;
 
@@ -58,6 +63,7 @@ struct Field {
     name: &'static str,
     width: Width,
     offset: usize,
+    names: Option<&'static Names>,
 }
 
 const fn field(name: &'static str, width: Width, offset: usize) -> Field {
@@ -65,6 +71,15 @@ const fn field(name: &'static str, width: Width, offset: usize) -> Field {
         name,
         width,
         offset,
+        names: None,
+    }
+}
+
+/// A byte whose numbers have names.
+const fn named(name: &'static str, names: &'static Names, offset: usize) -> Field {
+    Field {
+        names: Some(names),
+        ..field(name, Width::U8, offset)
     }
 }
 
@@ -74,7 +89,7 @@ struct Layout {
     fields: &'static [Field],
 }
 
-const LAYOUTS: [Layout; 7] = [
+const LAYOUTS: [Layout; 8] = [
     Layout {
         mark: "YR",
         fields: &[
@@ -129,6 +144,18 @@ const LAYOUTS: [Layout; 7] = [
             field("month", Width::U8, 2),
             field("device", Width::U8, 3),
             field("destroyed methane", Width::U64, 4),
+        ],
+    },
+    Layout {
+        mark: "LD",
+        fields: &[
+            field("line", Width::U8, 2),
+            field("system", Width::U8, 3),
+            field("category", Width::U8, 4),
+            named("livestock", &LIVESTOCK, 5),
+            named("state", &STATES, 6),
+            field("share", Width::U16, 8),
+            field("conversion factor", Width::U16, 10),
         ],
     },
 ];
@@ -213,8 +240,14 @@ fn table_record(layout: &Layout, words: &[&str]) -> Result<Vec<u8>, String> {
     let fields = layout.fields;
     if words.len() != fields.len() {
         let names: Vec<&str> = fields.iter().map(|field| field.name).collect();
+        let has_names = fields.iter().any(|field| field.names.is_some());
+        let kind = if has_names {
+            "numbers or names"
+        } else {
+            "numbers"
+        };
         return Err(format!(
-            "{} takes {} numbers ({}), not {}",
+            "{} takes {} {kind} ({}), not {}",
             layout.mark,
             names.len(),
             names.join(", "),
@@ -224,17 +257,29 @@ fn table_record(layout: &Layout, words: &[&str]) -> Result<Vec<u8>, String> {
     let values: Result<Vec<i128>, String> = fields
         .iter()
         .zip(words)
-        .map(|(field, word)| number(field, word))
+        .map(|(field, word)| value(field, word))
         .collect();
     Ok(layout.record(&values?).to_vec())
 }
 
+fn value(field: &Field, word: &str) -> Result<i128, String> {
+    let name = field.name;
+    match field.names {
+        _ if is_number(word) => number(field, word),
+        None => Err(format!("{name} {word:?} is not a whole number")),
+        Some(names) => names
+            .number(word)
+            .ok_or_else(|| format!("{name} {word:?} is not known: write {}", names.allowed())),
+    }
+}
+
+fn is_number(word: &str) -> bool {
+    let digits = word.strip_prefix('-').unwrap_or(word);
+    !digits.is_empty() && digits.bytes().all(|byte| byte.is_ascii_digit())
+}
+
 fn number(field: &Field, word: &str) -> Result<i128, String> {
     let name = field.name;
-    let digits = word.strip_prefix('-').unwrap_or(word);
-    if digits.is_empty() || !digits.bytes().all(|byte| byte.is_ascii_digit()) {
-        return Err(format!("{name} {word:?} is not a whole number"));
-    }
     let holds = field.width.holds();
     match word.parse() {
         Ok(value) if holds.contains(&value) => Ok(value),
@@ -283,8 +328,11 @@ fn table_line(record: &[u8]) -> Option<String> {
         return None;
     }
     let mut line = layout.mark.to_string();
-    for value in values {
-        line += &format!(" {value}");
+    for (field, value) in layout.fields.iter().zip(values) {
+        match field.names.and_then(|names| names.name(value)) {
+            Some(name) => line += &format!(" {name}"),
+            None => line += &format!(" {value}"),
+        }
     }
     Some(line)
 }

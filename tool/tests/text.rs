@@ -3,8 +3,8 @@
 use records::{to_bytes, to_text};
 
 /// A line for every mark, each with values that reach into every byte of its
-/// fields, and the record that the paper's table makes of it.
-const EVERY_MARK: [(&str, [u8; 16]); 7] = [
+/// fields, and the record that the papers make of it.
+const EVERY_MARK: [(&str, [u8; 16]); 8] = [
     ("YR 2011 7", *b"YR\xdb\x07\x07\0\0\0\0\0\0\0\0\0\0\0"),
     (
         "LN 3 1 2 1094 6800 9999 24 150",
@@ -23,6 +23,10 @@ const EVERY_MARK: [(&str, [u8; 16]); 7] = [
     (
         "MT 9 4 1000000000000",
         *b"MT\x09\x04\0\x10\xa5\xd4\xe8\0\0\0\0\0\0\0",
+    ),
+    (
+        "LD 32 1 16 heifers-grazing wyoming 9999 1234",
+        *b"LD\x20\x01\x10\x06\x32\0\x0f\x27\xd2\x04\0\0\0\0",
     ),
 ];
 
@@ -61,6 +65,9 @@ fn values_outside_the_papers_ranges_are_written() {
         "PE 255 4294967295 0 1",
         "MT 1 5 18446744073709551615",
         "LN 255 255 255 65535 65535 65535 255 65535",
+        "LD 255 255 255 255 255 65535 65535",
+        "LD 0 2 17 0 51 10001 1",
+        "LD 1 0 1 11 none 0 0",
     ];
     for line in lines {
         let record = to_bytes(line.as_bytes()).unwrap();
@@ -103,7 +110,7 @@ fn errors_say_the_line_and_what_is_wrong() {
     for mark in ["XX", "hd", "RAW"] {
         let wrong = format!(
             "line 1: {mark:?} is not a mark: \
-             a line starts with one of YR, LN, HD, TP, DR, PE, MT, or with raw"
+             a line starts with one of YR, LN, HD, TP, DR, PE, MT, LD, or with raw"
         );
         assert_eq!(error(&format!("{mark} 1")), wrong);
     }
@@ -115,6 +122,72 @@ fn errors_say_the_line_and_what_is_wrong() {
     assert!(error(&format!("HD 1 1 {huge}")).contains("does not fit its field"));
     let not_text = to_bytes(b"HD 1 1 1\nHD \xff\n").unwrap_err();
     assert_eq!(not_text.to_string(), "line 2: not readable as text");
+}
+
+#[test]
+fn livestock_and_state_by_number_or_by_name() {
+    let record = to_bytes(b"LD 1 0 1 1 5 10000 0").unwrap();
+    assert_eq!(record[5..7], [1, 5]);
+    assert_eq!(to_text(&record), "LD 1 0 1 dairy-cows california 10000 0\n");
+    for words in [
+        "dairy-cows california",
+        "Dairy-Cows CALIFORNIA",
+        "1 california",
+        "dairy-cows 5",
+        "01 005",
+    ] {
+        let line = format!("LD 1 0 1 {words} 10000 0");
+        assert_eq!(to_bytes(line.as_bytes()), Ok(record.clone()), "{line}");
+    }
+    let ends = [
+        ("non-milking-dairy-cows none", [2, 0]),
+        ("cows-grazing alabama", [7, 1]),
+        ("heifers new-york", [3, 32]),
+        ("breeding-swine wyoming", [10, 50]),
+    ];
+    for (words, bytes) in ends {
+        let line = format!("LD 1 0 1 {words} 10000 0");
+        assert_eq!(to_bytes(line.as_bytes()).unwrap()[5..7], bytes, "{line}");
+    }
+}
+
+#[test]
+fn every_livestock_with_every_state_comes_back() {
+    let mut record = to_bytes(b"LD 1 0 1 1 5 10000 0").unwrap();
+    for livestock in 0..=u8::MAX {
+        for state in 0..=u8::MAX {
+            record[5..7].copy_from_slice(&[livestock, state]);
+            round_trip(&record);
+        }
+    }
+}
+
+#[test]
+fn errors_of_names_say_what_may_be_written() {
+    assert_eq!(
+        error("LD 1 0 1 dairy-cow california 10000 0"),
+        "line 1: livestock \"dairy-cow\" is not known: write dairy-cows, non-milking-dairy-cows, \
+         heifers, bulls-grazing, calves-grazing, heifers-grazing, cows-grazing, nursery-swine, \
+         grow-finish-swine, breeding-swine, or a number 0 to 255"
+    );
+    assert_eq!(
+        error("DR 1 1\nLD 1 0 1 dairy-cows newyork 10000 0"),
+        "line 2: state \"newyork\" is not known: write a state's name in small letters with \
+         hyphens, a number 0 to 255, or none"
+    );
+    assert_eq!(
+        error("LD 1 0 1 dairy-cows 256 10000 0"),
+        "line 1: state 256 does not fit its field, which holds 0 to 255"
+    );
+    assert_eq!(
+        error("LD 1 0 1 heifers new york 10000 0"),
+        "line 1: LD takes 7 numbers or names (line, system, category, livestock, state, share, \
+         conversion factor), not 8"
+    );
+    assert_eq!(
+        error("LD 1 0 none heifers 1 10000 0"),
+        "line 1: category \"none\" is not a whole number"
+    );
 }
 
 #[test]
