@@ -9,6 +9,12 @@ pub const LINES: i64 = 32;
 pub const CATEGORIES: i64 = 16;
 pub const MONTHS: i64 = 120;
 pub const DEVICES: i64 = 4;
+/// The rows of the protocol's Tables A.2 and A.5.
+pub const LIVESTOCK: i64 = 10;
+pub const STATES: i64 = 50;
+/// The livestock that a state is asked for: dairy cows, heifers, heifers
+/// grazing and cows grazing.
+pub const BY_STATE: [i64; 4] = [1, 3, 6, 7];
 
 /// A field: its offset, its bytes, its lowest and its highest value, and
 /// whether it is part of the record's key.
@@ -40,8 +46,9 @@ const fn key(at: usize, high: i64) -> Field {
 
 const ALL_OF_U32: i64 = u32::MAX as i64;
 
-/// Paper 01's table; bytes that no field has are the zero bytes.
-pub const TABLE: [(&[u8; 2], &[Field]); 7] = [
+/// Paper 01's table, and paper 02's LD, whose state is 0 for some livestock;
+/// bytes that no field has are the zero bytes.
+pub const TABLE: [(&[u8; 2], &[Field]); 8] = [
     (b"YR", &[field(2, 2, 2000, 2089), field(4, 1, 1, 12)]),
     (
         b"LN",
@@ -79,6 +86,18 @@ pub const TABLE: [(&[u8; 2], &[Field]); 7] = [
             field(4, 8, 0, 1_000_000_000_000),
         ],
     ),
+    (
+        b"LD",
+        &[
+            key(2, LINES),
+            field(3, 1, 0, 1),
+            field(4, 1, 1, CATEGORIES),
+            field(5, 1, 1, LIVESTOCK),
+            field(6, 1, 0, STATES),
+            field(8, 2, 0, 10_000),
+            field(10, 2, 0, 10_000),
+        ],
+    ),
 ];
 
 /// Row `row` of the table with these values, whatever they are.
@@ -109,6 +128,7 @@ pub const TP: usize = 3;
 pub const DR: usize = 4;
 pub const PE: usize = 5;
 pub const MT: usize = 6;
+pub const LD: usize = 7;
 
 /// A record of any row whose fields stand at, just inside or just outside the
 /// ends of their ranges, or anywhere between.
@@ -241,6 +261,13 @@ fn lines(random: &mut Random, extent: &Extent) -> Vec<Record> {
         };
         let category = (line - 1) % extent.categories + 1;
         let conversion = system * random.within(0, 10_000);
+        if random.once_in(4) {
+            let (livestock, state) = livestock_and_state(random);
+            return record(
+                LD,
+                &[line, system, category, livestock, state, share, conversion],
+            );
+        }
         let solids = random.within(0, 2_000);
         let mass = random.within(0, 20_000);
         let b0 = random.within(0, 100);
@@ -250,4 +277,15 @@ fn lines(random: &mut Random, extent: &Extent) -> Vec<Record> {
         )
     };
     (1..=extent.lines).map(&mut line).collect()
+}
+
+/// A livestock, and a state that it may have.
+fn livestock_and_state(random: &mut Random) -> (i64, i64) {
+    let livestock = random.within(1, LIVESTOCK);
+    let state = if BY_STATE.contains(&livestock) {
+        random.within(1, STATES)
+    } else {
+        0
+    };
+    (livestock, state)
 }

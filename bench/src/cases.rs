@@ -1,5 +1,5 @@
 //! The cases that both programs are held to each other on: inputs with a name,
-//! in groups that each look at some of paper 01's rules.
+//! in groups that each look at some of the papers' rules.
 
 mod books;
 mod damaged;
@@ -8,6 +8,7 @@ mod figures;
 mod floats;
 mod gaps;
 mod lacking;
+mod livestock;
 mod month;
 mod order;
 
@@ -113,6 +114,7 @@ pub fn groups(root: &Path, farm: &Path) -> std::io::Result<Vec<Group>> {
         order::order(),
         lacking::lacking(),
         lacking::shares(),
+        livestock::livestock(),
         books::keys(),
         books::calendar(),
         books::temperatures(),

@@ -1,10 +1,11 @@
 //! Both sides on one input: what they answer where they agree, else what differs.
 
 use second::book::Book as PlainBook;
+use second::record::{Line, System};
 use second::refusal::Refusal;
 use second::year::YearFigures;
 
-use crate::book::RECORD_BYTES;
+use crate::book::{record, Record, LN, RECORD_BYTES};
 use crate::cabinet::{self, BOOK_BYTES};
 use crate::digest;
 use crate::driver::{Changed, Delivered, Delivery, Driver, Patterns, Told};
@@ -81,7 +82,8 @@ impl Sides<'_> {
             Ok(()) => {
                 let slot = self.slots.of(piece);
                 let at = delivery.offset + RECORD_BYTES * slot;
-                self.lent[at..at + RECORD_BYTES].copy_from_slice(piece);
+                let kept = self.kept(piece);
+                self.lent[at..at + RECORD_BYTES].copy_from_slice(&kept);
                 (
                     cabinet::Posted {
                         number: 0,
@@ -105,6 +107,17 @@ impl Sides<'_> {
             posted,
             changed: delivery.watched.then_some(changed),
         }
+    }
+
+    /// What a record that was taken leaves in its slot: its own bytes, and
+    /// those of the LN that it stands for where it is an LD.
+    fn kept(&self, piece: &[u8]) -> Vec<u8> {
+        if !piece.starts_with(b"LD") {
+            return piece.to_vec();
+        }
+        let number = piece[2];
+        let line = self.plain.line(number).expect("the line was taken");
+        ln_of(number, &line).to_vec()
     }
 
     /// What differs after the records: in a year, or in the bytes of the book
@@ -185,6 +198,24 @@ impl Sides<'_> {
             ))
         }
     }
+}
+
+fn ln_of(number: u8, line: &Line) -> Record {
+    let (system, conversion) = match line.system {
+        System::Anaerobic => (0, 0),
+        System::Other { conversion_factor } => (1, conversion_factor),
+    };
+    let values = [
+        number.into(),
+        system,
+        line.category.into(),
+        line.table_solids.into(),
+        line.mass.into(),
+        line.share.into(),
+        line.b0.into(),
+        conversion.into(),
+    ];
+    record(LN, &values)
 }
 
 /// The second program takes 32 bits: a year past those is no year of the ten either.

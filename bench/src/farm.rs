@@ -1,7 +1,8 @@
 //! Books made by hand, whose figures tell every field: no two months alike, a
-//! line of each system, two lines in one category, a lagoon that is drained.
+//! line of each system, two lines in one category, lines by livestock, a lagoon
+//! that is drained.
 
-use crate::book::{record, Record, DR, HD, LN, MT, PE, TP, YR};
+use crate::book::{record, Record, DR, HD, LD, LN, MT, PE, TP, YR};
 
 /// Line 1 and 3 are anaerobic, of category 1; line 2 is another system's, of category 2.
 pub const LINE: [[i64; 8]; 3] = [
@@ -9,6 +10,10 @@ pub const LINE: [[i64; 8]; 3] = [
     [2, 1, 2, 907, 4_999, 7_001, 31, 3_003],
     [3, 0, 1, 1_013, 5_501, 4_000, 19, 0],
 ];
+/// Lines 4 and 5, of category 2, are by livestock: heifers grazing in Nevada,
+/// and nursery swine of another system, which have no state.
+pub const LIVESTOCK_LINE: [[i64; 7]; 2] =
+    [[4, 0, 2, 6, 28, 1_501, 0], [5, 1, 2, 8, 0, 1_403, 2_002]];
 pub const DRAINED: [i64; 2] = [1, 7];
 
 /// The values of the farm's record of a row: of the first of its lines, of
@@ -22,7 +27,8 @@ pub fn ordinary(row: usize) -> Vec<i64> {
         DR => DRAINED.to_vec(),
         PE => [vec![5], project(5).to_vec()].concat(),
         MT => vec![5, 1, destroyed(1, 5)],
-        _ => unreachable!("the table has seven rows"),
+        LD => LIVESTOCK_LINE[0].to_vec(),
+        _ => unreachable!("the table has eight rows"),
     }
 }
 
@@ -45,7 +51,7 @@ pub fn destroyed(device: i64, month: i64) -> i64 {
 /// The farm over so many months, with two devices.
 pub fn farm(months: i64) -> Vec<Record> {
     let mut records = vec![record(YR, &ordinary(YR))];
-    records.extend(LINE.iter().map(|line| record(LN, line)));
+    records.extend(lines());
     records.push(record(DR, &DRAINED));
     for month in 1..=months {
         records
@@ -56,6 +62,13 @@ pub fn farm(months: i64) -> Vec<Record> {
         records.extend([1, 2].map(|device| record(MT, &[month, device, destroyed(device, month)])));
     }
     records
+}
+
+/// The farm's lines, by LN and by LD.
+pub fn lines() -> Vec<Record> {
+    let by_values = LINE.iter().map(|line| record(LN, line));
+    let by_livestock = LIVESTOCK_LINE.iter().map(|line| record(LD, line));
+    by_values.chain(by_livestock).collect()
 }
 
 /// The farm's year with another record in place of one that it has.

@@ -53,12 +53,14 @@ impl Slots {
     }
 }
 
-/// Paper 01: the mark with its line, category, month or device.
+/// Paper 01: the mark with its line, category, month or device. LD has LN's
+/// (paper 02, (i)).
 fn key(record: &[u8]) -> Key {
     let mut key = [record[0], record[1], record[2], record[3]];
     match &record[..2] {
         b"YR" => key[2..].fill(0),
         b"LN" | b"TP" | b"PE" => key[3] = 0,
+        b"LD" => key = [b'L', b'N', record[2], 0],
         _ => {}
     }
     key

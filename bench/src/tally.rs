@@ -11,7 +11,7 @@ const LEAST_REFUSED: [(Program, u64, usize, usize); 11] = [
     (Program::Years, 1, 200, 1),
     (Program::Years, 2, 150, 1),
     (Program::Years, 3, 350, 13),
-    (Program::Years, 4, 400, 8),
+    (Program::Years, 4, 600, 9),
     (Program::Years, 5, 400, 1),
     (Program::Years, 7, 120, 16),
     (Program::Years, 8, 1_100, 50),

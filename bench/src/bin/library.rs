@@ -1,7 +1,7 @@
 //! Holds the proved library, called from C, to the second program. A case that
 //! differs is written out as an input of the programs, under target/differs.
 //!
-//!     library DRIVER [streams COUNT] [months COUNT] [floats] [temperatures] [cuts] [sizes] [seed SEED]
+//!     library DRIVER [streams COUNT] [months COUNT] [floats] [temperatures] [livestock] [cuts] [sizes] [seed SEED]
 //!
 //! DRIVER is bench/driver.c, built. Without a further word, all of it at the
 //! size that the tests run.
@@ -10,7 +10,8 @@ use std::path::{Path, PathBuf};
 use std::process::ExitCode;
 use std::thread;
 
-use bench::book::{record, whole, Extent, Record, HD, LN, PE, RECORD_BYTES, TP, YR};
+use bench::book::{record, whole, Extent, Record, HD, LD, LN, PE, RECORD_BYTES, TP, YR};
+use bench::book::{BY_STATE, CATEGORIES, LINES, LIVESTOCK, STATES};
 use bench::cabinet::BOOK_BYTES;
 use bench::deliveries::{month_of, pieces_of};
 use bench::difference::{Difference, Sides};
@@ -23,7 +24,7 @@ use bench::slots::Slots;
 use bench::streams::{joined, pieces, stream};
 
 const USAGE: &str =
-    "usage: library DRIVER [streams COUNT] [months COUNT] [floats] [temperatures] [cuts] [sizes] [seed SEED]";
+    "usage: library DRIVER [streams COUNT] [months COUNT] [floats] [temperatures] [livestock] [cuts] [sizes] [seed SEED]";
 
 /// Where the library does not run on the processor itself but under an
 /// emulator, there is less of what is many.
@@ -54,7 +55,7 @@ const RECORD_FLOORS: [Floor; 6] = [
     floor(1, 100, 1),
     floor(2, 500, 1),
     floor(3, 300, 13),
-    floor(4, 1_000, 8),
+    floor(4, 1_000, 9),
     floor(5, 1_000, 1),
 ];
 const YEAR_FLOORS: [Floor; 4] = [
@@ -76,6 +77,7 @@ struct Asked {
     months: u64,
     floats: bool,
     temperatures: bool,
+    livestock: bool,
     cuts: bool,
     sizes: bool,
     seed: u64,
@@ -104,6 +106,7 @@ fn asked(words: &[String]) -> Option<Asked> {
         months: 0,
         floats: false,
         temperatures: false,
+        livestock: false,
         cuts: false,
         sizes: false,
         seed: SEED,
@@ -117,6 +120,7 @@ fn asked(words: &[String]) -> Option<Asked> {
             "months" => asked.months = words.next()?.parse().ok()?,
             "floats" => asked.floats = true,
             "temperatures" => asked.temperatures = true,
+            "livestock" => asked.livestock = true,
             "cuts" => asked.cuts = true,
             "sizes" => asked.sizes = true,
             _ => return None,
@@ -128,6 +132,7 @@ fn asked(words: &[String]) -> Option<Asked> {
             months: MONTHS_OF_HOURS,
             floats: true,
             temperatures: true,
+            livestock: true,
             cuts: true,
             sizes: true,
             ..asked
@@ -159,6 +164,10 @@ fn compare(asked: &Asked) -> Result<(), String> {
     if asked.temperatures {
         let taken = temperatures(run)?;
         println!("library: all 65,536 temperatures, {taken} of them taken");
+    }
+    if asked.livestock {
+        let taken = livestock(run)?;
+        println!("library: all 256 livestock with all 256 states, {taken} of them taken");
     }
     if asked.cuts {
         let cuts = cuts(run, seed)?;
@@ -372,6 +381,55 @@ fn temperatures(run: &Run) -> Result<u64, String> {
             "{taken} temperatures are taken, where the table has {in_range}"
         ))
     }
+}
+
+/// Every livestock with every state that a byte can say, as many to a book as
+/// it has lines: so the two sides' tables are compared entry by entry, in the
+/// bytes that the book keeps of an LD.
+fn livestock(run: &Run) -> Result<u64, String> {
+    let all: Vec<(i64, i64)> = (0..=255)
+        .flat_map(|livestock| (0..=255).map(move |state| (livestock, state)))
+        .collect();
+    let books: Vec<&[(i64, i64)]> = all.chunks(LINES as usize).collect();
+    let [pairs, _] = run.on_workers(books.len() as u64, |sides, book, [pairs, _]| {
+        let records: Vec<Record> = (1..).zip(books[book as usize]).map(by_livestock).collect();
+        let pieces: Vec<&[u8]> = records.iter().map(Record::as_slice).collect();
+        let delivery = Delivery {
+            offset: 0,
+            watched: false,
+            pieces: &pieces,
+            years: &[],
+        };
+        let delivered = sides
+            .deliver(&delivery)
+            .map_err(|difference| difference.what)?;
+        for told in &delivered.records {
+            pairs.add(told.posted.number, told.posted.place);
+        }
+        Ok(())
+    })?;
+    let taken = pairs.count(0);
+    let by_state = BY_STATE.len() as i64;
+    let in_tables = (by_state * STATES + LIVESTOCK - by_state) as u64;
+    if taken == in_tables {
+        Ok(taken)
+    } else {
+        Err(format!(
+            "{taken} pairs of livestock and state are taken, where the tables have {in_tables}"
+        ))
+    }
+}
+
+/// Lines whose other fields differ too, of either system.
+fn by_livestock((line, &(livestock, state)): (i64, &(i64, i64))) -> Record {
+    let system = line % 2;
+    let category = (line + livestock) % CATEGORIES + 1;
+    let share = 10_000 - 300 * line - state;
+    let conversion = system * (39 * state + line);
+    record(
+        LD,
+        &[line, system, category, livestock, state, share, conversion],
+    )
 }
 
 /// A book whose delivery stops after any of its bytes and goes on from any

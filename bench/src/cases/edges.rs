@@ -3,19 +3,21 @@
 //! The record stands in the farm's year, so that what is taken shows in figures.
 
 use super::{Group, Program};
-use crate::book::{record, zero_bytes, Record, HD, LN, RECORD_BYTES, TABLE};
+use crate::book::{record, zero_bytes, Record, HD, LD, LN, RECORD_BYTES, TABLE};
 use crate::farm::{self, farm, ordinary};
 use crate::streams::joined;
 
-/// The records that the edges start from: one of each row, and a line of the other system.
+/// The records that the edges start from: one of each row, and lines of the
+/// other system, one of them of a livestock that has no state.
 fn starts() -> Vec<(usize, Vec<i64>)> {
     let mut starts: Vec<_> = (0..TABLE.len()).map(|row| (row, ordinary(row))).collect();
     starts.push((LN, farm::LINE[1].to_vec()));
+    starts.push((LD, farm::LIVESTOCK_LINE[1].to_vec()));
     starts
 }
 
 pub fn edges() -> Group {
-    let mut group = Group::new("edges of the records", 680, 125, 85);
+    let mut group = Group::new("edges of the records", 950, 145, 95);
     for (row, values) in starts() {
         for field in 0..values.len() {
             for value in edge_values(row, field, values[field]) {
@@ -105,16 +107,25 @@ fn systems(group: &mut Group) {
             let mut line = farm::LINE[1];
             line[1] = system;
             line[7] = conversion;
+            let name = format!("system {system}, conversion factor {conversion}");
             group.book(
-                format!("system {system}, conversion factor {conversion}"),
+                name.clone(),
                 &farm::with(&record(LN, &farm::LINE[1]), record(LN, &line)),
+            );
+            let ordinary = farm::LIVESTOCK_LINE[1];
+            let mut line = ordinary;
+            line[1] = system;
+            line[6] = conversion;
+            group.book(
+                format!("{name}, by livestock"),
+                &farm::with(&record(LD, &ordinary), record(LD, &line)),
             );
         }
     }
 }
 
 pub fn marks_and_lengths() -> Group {
-    let mut group = Group::new("marks and lengths", 280, 1, 6);
+    let mut group = Group::new("marks and lengths", 300, 1, 6);
     for (row, values) in starts() {
         let ordinary = record(row, &values);
         for mark in near_marks([ordinary[0], ordinary[1]]) {

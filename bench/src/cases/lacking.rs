@@ -52,13 +52,13 @@ fn first_looked_at(group: &mut Group) {
     let yr = record(YR, &ordinary(YR));
     let no_yr = without(farm(12), &yr);
     let mut no_lines = farm(12);
-    for line in farm::LINE {
-        no_lines = without(no_lines, &record(LN, &line));
+    for line in farm::lines() {
+        no_lines = without(no_lines, &line);
     }
     let neither = without(no_lines.clone(), &yr);
     for (name, book) in [
         ("no YR", no_yr),
-        ("no LN", no_lines),
+        ("no line", no_lines),
         ("neither", neither),
         ("YR alone", vec![yr]),
     ] {
@@ -79,7 +79,7 @@ fn categories(group: &mut Group) {
     for category in [3, CATEGORIES] {
         for system in [0, 1] {
             for emptied in [3, 4, 5, 6] {
-                let mut line = [4, system, category, 500, 500, 500, 50, 0];
+                let mut line = [6, system, category, 500, 500, 500, 50, 0];
                 line[emptied] = 0;
                 let book = and(farm(12), &[record(LN, &line)]);
                 let name = format!("category {category}, system {system}, field {emptied} 0");

@@ -6,7 +6,7 @@ use crate::book::{record, zero_bytes, Record, DR, HD, LN, MT, PE, TABLE, TP, YR}
 use crate::farm::{self, and, farm, ordinary, with, without};
 
 pub fn order() -> Group {
-    let mut group = Group::new("order of the refusals", 210, 12, 25);
+    let mut group = Group::new("order of the refusals", 260, 12, 27);
     for row in 0..TABLE.len() {
         zeros_before_fields(&mut group, row);
         first_field(&mut group, row);
