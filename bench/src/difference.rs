@@ -130,7 +130,7 @@ impl Sides<'_> {
             }
         }
         if delivered.digest != digest::of_memory(&self.lent) {
-            return Some("the book has other bytes than the records that it took".to_string());
+            return Some("the book has other bytes than these records make".to_string());
         }
         None
     }

@@ -392,7 +392,8 @@ fn livestock(run: &Run) -> Result<u64, String> {
         .collect();
     let books: Vec<&[(i64, i64)]> = all.chunks(LINES as usize).collect();
     let [pairs, _] = run.on_workers(books.len() as u64, |sides, book, [pairs, _]| {
-        let records: Vec<Record> = (1..).zip(books[book as usize]).map(by_livestock).collect();
+        let book = books[book as usize];
+        let records: Vec<Record> = (1..).zip(book).map(by_livestock).collect();
         let pieces: Vec<&[u8]> = records.iter().map(Record::as_slice).collect();
         let delivery = Delivery {
             offset: 0,
@@ -400,9 +401,13 @@ fn livestock(run: &Run) -> Result<u64, String> {
             pieces: &pieces,
             years: &[],
         };
-        let delivered = sides
-            .deliver(&delivery)
-            .map_err(|difference| difference.what)?;
+        let delivered = sides.deliver(&delivery).map_err(|difference| {
+            let (first, last) = (book[0], book[book.len() - 1]);
+            format!(
+                "livestock and state {first:?} to {last:?}: {}",
+                difference.what
+            )
+        })?;
         for told in &delivered.records {
             pairs.add(told.posted.number, told.posted.place);
         }
