@@ -1,5 +1,5 @@
 /* Every function of include/cabinet.h called from C, and every field of every
- * answer held to paper 01's figures: on 01's worked example, which stands on
+ * answer held to the papers' figures: on 01's worked example, which stands on
  * standard input, record by record. Says each that differs, and then ends with
  * status 1. */
 #include <stdio.h>
@@ -30,8 +30,9 @@ static void is(const char *what, long long told, long long right)
 #define IS(told, right) is(#told, (long long)(told), (right))
 
 /* Posts a record, and looks at every byte of the book: a record refused leaves
- * it as it was, one taken changes sixteen bytes to its own. */
-static void posts(const uint8_t *record, size_t bytes, long long number, long long place)
+ * it as it was, one taken changes sixteen bytes to those that are kept of it. */
+static void posts_and_keeps(const uint8_t *record, size_t bytes, const uint8_t *kept,
+                            long long number, long long place)
 {
     static uint8_t before[CABINET_BOOK_BYTES];
     memcpy(before, book, sizeof book);
@@ -44,10 +45,15 @@ static void posts(const uint8_t *record, size_t bytes, long long number, long lo
     IS(at == sizeof book, number != 0);
     if (at < sizeof book) {
         IS(at % CABINET_RECORD_BYTES, 0);
-        IS(memcmp(book + at, record, CABINET_RECORD_BYTES), 0);
+        IS(memcmp(book + at, kept, CABINET_RECORD_BYTES), 0);
         at += CABINET_RECORD_BYTES;
     }
     IS(memcmp(book + at, before + at, sizeof book - at), 0);
+}
+
+static void posts(const uint8_t *record, size_t bytes, long long number, long long place)
+{
+    posts_and_keeps(record, bytes, record, number, place);
 }
 
 static void empties(void)
@@ -132,6 +138,25 @@ static void records_are_refused(void)
     posts(wrong, sizeof wrong, 4, 3);
     posts(head, CABINET_RECORD_BYTES, 0, 0);
     posts(head, CABINET_RECORD_BYTES, 5, 0);
+}
+
+/* Paper 02, (i): an LD, here of heifers in California, is kept as the LN with
+ * the protocol's 476 kg, 7.42 kg a day for 1,000 kg, and B0 0.17. */
+static void line_by_livestock(void)
+{
+    const uint8_t heifers[] = {'L', 'D', 3, 1, 2, 3, 5, 0, 0x10, 0x27, 0x96, 0, 0, 0, 0, 0};
+    const uint8_t line[] = {'L', 'N', 3, 1, 2, 0, 0xe6, 2, 0x98, 0x12, 0x10, 0x27, 17, 0, 0x96, 0};
+    uint8_t wrong[CABINET_RECORD_BYTES];
+    memcpy(wrong, heifers, sizeof wrong);
+    wrong[6] = 51; /* one state more than there are */
+    posts(wrong, sizeof wrong, 4, 6);
+    wrong[5] = 11; /* one livestock more */
+    posts(wrong, sizeof wrong, 4, 5);
+    wrong[7] = 1;
+    posts(wrong, sizeof wrong, 3, 7);
+    posts_and_keeps(heifers, sizeof heifers, line, 0, 0);
+    posts(heifers, sizeof heifers, 5, 0);
+    posts(line, sizeof line, 5, 0);
 }
 
 static struct cabinet_month month_of(size_t hours, uint8_t last_without_flow, float last_flow,
@@ -230,5 +255,6 @@ int main(void)
     months();
     years();
     records_are_refused();
+    line_by_livestock();
     return faults > 0;
 }
