@@ -21,7 +21,7 @@ use crate::streams;
 
 pub const SEED: u64 = 2_011;
 
-/// What paper 01 itself says of an output.
+/// What the papers themselves say of an output.
 #[derive(Clone)]
 pub enum Claim {
     /// It is this text, whole.

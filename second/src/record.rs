@@ -162,7 +162,7 @@ impl Fields<'_> {
         in_range(self.u16(offset.into()), 0..=10_000, offset)
     }
 
-    /// The system with its conversion factor, which only 0 may be where the
+    /// The system with its conversion factor, which may only be 0 where the
     /// system is anaerobic.
     fn system(&self, anaerobic: bool, offset: u16) -> Result<System, Refusal> {
         let most = if anaerobic { 0 } else { 10_000 };
