@@ -3,6 +3,9 @@
 
 use std::iter;
 
+use Column::*;
+use Solids::*;
+
 /// What Table A.3 has for the solids of a livestock category.
 #[derive(Clone, Copy)]
 enum Solids {
@@ -18,9 +21,6 @@ enum Column {
     HeiferGrazing,
     CowsGrazing,
 }
-
-use Column::*;
-use Solids::*;
 
 /// Table A.2: the livestock category, and its typical average mass in kg.
 const MASSES: [(&str, &str); 10] = [
