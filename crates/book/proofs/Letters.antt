@@ -14,7 +14,7 @@ use Rattle.number_bytes.specs.Number.{numberAt}
 use Rattle.record_table.specs.Slot.{slots}
 use Rattle.record_judge.specs.Record.{rowIn, rowOf, judged}
 use Rattle.record_judge.specs.declared.Judged.the-variants.{Put}
-use Rattle.record_defaults.specs.Defaults.{defaultsLetters, isDefaults}
+use Rattle.record_judge.specs.Defaults.{defaultsLetters, isDefaults}
 use Rattle.record_judge.proofs.Taken.{row-put}
 use Rattle.book.specs.Book.{recordAt, free, nothing}
 use Rattle.book.specs.Valid.{Stands, Valid}

@@ -6,7 +6,7 @@ ghost use Prim.Native.Nat.{_≤_, _<_, _/_, _%_};
 ghost use lib.ListN.{length};
 ghost use Rattle.record_table.specs.Table.{recordBytes};
 ghost use Rattle.record_defaults.specs.Tables.{Livestock, State, stateCount, columns, massOf, b0Of, solidsEntry, byState, asksState, solidsOf};
-ghost use Rattle.record_defaults.specs.Defaults.{Named, lineOf};
+ghost use Rattle.record_defaults.specs.StandsFor.{Named, lineOf};
 
 // What Table A.3 has of a livestock's solids: a value of its own, in hundredths of a kilogram a day for 1,000 kg of animal, or a column of Table A.5.
 pub enum Solids {

@@ -12,7 +12,8 @@ use Rattle.record_table.specs.Table.{Range, table, ln, entriesOf, recordBytes, 
 use Rattle.record_table.specs.Slot.{slotOf}
 use Rattle.record_fields.specs.Entry.{inRange, nonzeroAt}
 use Rattle.record_defaults.specs.Tables.{massOf, b0Of, solidsOf, livestocks, lowestState, highestState}
-use Rattle.record_defaults.specs.Defaults.{livestockAt, stateAt, defaultsLetters, isDefaults, defaultsEntries, Named, lineOf}
+use Rattle.record_defaults.specs.StandsFor.{livestockAt, stateAt, Named, lineOf}
+use Rattle.record_judge.specs.Defaults.{defaultsLetters, isDefaults, defaultsEntries}
 use Rattle.record_defaults.proofs.Inside.{lineRange, solidsAt, massAt, b0At, mass-inside, b0-inside, solids-inside}
 use Rattle.record_judge.specs.Record.{nowhere, nonzeroIn, outsideIn, keyIn, rowIn, rowOf, keyOf, verdict, judgedAs, judged}
 use Rattle.record_judge.specs.declared.Judged.the-variants.{Put}

@@ -11,7 +11,7 @@ use Rattle.laws.proofs.Table.{left, right, each, at}
 use Rattle.record_table.specs.Table.{from, Entry, zeros, field, table, entriesOf, afterMark}
 use Rattle.number_bytes.specs.Number.{numberAt}
 use Rattle.record_fields.specs.Entry.{inRange, outsideAt}
-use Rattle.record_defaults.specs.Defaults.{defaultsEntries}
+use Rattle.record_judge.specs.Defaults.{defaultsEntries}
 use Rattle.record_judge.specs.Record.{nowhere, outsideIn}
 
 -- each field, from an offset on, is in its range

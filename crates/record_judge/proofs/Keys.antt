@@ -9,7 +9,7 @@ use lib.ListN.{length, getD}
 use Rattle.record_table.specs.Table.{Entry, u8, noRow, table, ln, highestOf, entriesOf, afterMark}
 use Rattle.record_table.specs.Slot.{count, index, slots, slotOf}
 use Rattle.record_table.proofs.Slots.{digit-same, Low, index-below, Among, among, among-all, one-row}
-use Rattle.record_defaults.specs.Defaults.{isDefaults}
+use Rattle.record_judge.specs.Defaults.{isDefaults}
 use Rattle.record_judge.specs.Record.{keyIn, rowOf, keyOf, keyRow, judged, storedOf}
 use Rattle.record_judge.specs.declared.Judged.the-variants.{Put, Empty}
 use Rattle.record_judge.proofs.Taken.{Taken, never-empties}

@@ -10,7 +10,7 @@ use lib.ListN.{length}
 use Rattle.record_table.specs.Table.{table, ln, recordBytes, afterMark}
 use Rattle.refusals.specs.Refusal.{refusal, notSixteenBytes, unknownMark}
 use Rattle.number_bytes.specs.Number.{numberAt}
-use Rattle.record_defaults.specs.Defaults.{defaultsLetters, isDefaults, defaultsEntries}
+use Rattle.record_judge.specs.Defaults.{defaultsLetters, isDefaults, defaultsEntries}
 use Rattle.record_judge.specs.Record.{rowIn, rowOf, judgedBy, judgedAs, judged}
 use Rattle.record_judge.specs.declared.Judged.{Judged}
 use Rattle.record_judge.specs.declared.Judged.the-variants.{Refused}

@@ -6,7 +6,8 @@ use mathlib.Core.List.{List}
 use Prim.Native.Nat.{ℕ}
 use lib.ListN.{length}
 use Rattle.record_table.specs.Table.{recordBytes}
-use Rattle.record_defaults.specs.Defaults.{isDefaults, Named, lineOf}
+use Rattle.record_defaults.specs.StandsFor.{Named, lineOf}
+use Rattle.record_judge.specs.Defaults.{isDefaults}
 use Rattle.record_judge.specs.Record.{judged, storedOf}
 use Rattle.record_judge.specs.declared.Judged.the-variants.{Put}
 use Rattle.record_judge.proofs.Defaults.{line-own, line-judged, named}

@@ -13,7 +13,7 @@ use Rattle.refusals.specs.Refusal.{postingOrder}
 use Rattle.refusals.specs.declared.Refusal.{Refusal}
 use Rattle.record_table.specs.Table.{table, ln, entriesOf, recordBytes, afterMark}
 use Rattle.record_table.specs.Slot.{slotOf}
-use Rattle.record_defaults.specs.Defaults.{isDefaults, defaultsEntries}
+use Rattle.record_judge.specs.Defaults.{isDefaults, defaultsEntries}
 use Rattle.record_judge.specs.Record.{nowhere, outsideIn, rowOf, keyOf, verdict, judgedAs, judged}
 use Rattle.record_judge.specs.declared.Judged.{Judged}
 use Rattle.record_judge.specs.declared.Judged.the-variants.{Refused, Put, Empty}

@@ -6,7 +6,7 @@ use lib.ListN.{getD}
 use Rattle.record_table.specs.{Table.from, Table.afterMark, Slot.index}
 use Rattle.record_fields.specs.Entry.{outsideAt}
 use Rattle.record_defaults.specs.Tables.{livestocks, lowestState, highestState}
-use Rattle.record_defaults.specs.Defaults.{livestockAt, stateAt}
+use Rattle.record_defaults.specs.StandsFor.{livestockAt, stateAt}
 use Rattle.record_judge.specs.Record.{keyIn, verdict}
 use Rattle.record_judge.specs.declared.Judged.{Judged}
 

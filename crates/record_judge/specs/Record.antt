@@ -8,7 +8,8 @@ use Rattle.number_bytes.specs.Number.{numberAt}
 use Rattle.record_table.specs.Slot.{slotOf}
 use Rattle.refusals.specs.Refusal.{refusal, notSixteenBytes, unknownMark, notZero, outOfRange}
 use Rattle.record_fields.specs.Entry.{outsideAt, nonzeroAt}
-use Rattle.record_defaults.specs.Defaults.{isDefaults, defaultsEntries, lineOf}
+use Rattle.record_defaults.specs.StandsFor.{lineOf}
+use Rattle.record_judge.specs.Defaults.{isDefaults, defaultsEntries}
 use Rattle.record_judge.specs.declared.Judged.{Judged, the-variants.Refused, the-variants.Put}
 
 -- the place of what is not found: past the record's last byte

@@ -11,7 +11,7 @@ use Rattle.units.specs.Grams.{methane}
 use Rattle.number_bytes.specs.Number.{numberAt}
 use Rattle.record_table.specs.Slot.{count, index, total, slotOf}
 use Rattle.record_fields.specs.Entry.{inRange, outsideAt, nonzeroAt}
-use Rattle.record_defaults.specs.Defaults.{isDefaults}
+use Rattle.record_judge.specs.Defaults.{isDefaults}
 use Rattle.record_judge.specs.Record.{nonzeroIn, outsideIn, keyIn, rowIn, rowOf, keyOf, verdict, judgedAs, judged}
 use Rattle.record_judge.specs.declared.Judged.the-variants.{Put}
 use Rattle.record_judge.proofs.Keys.{put-below}

@@ -7,7 +7,7 @@ use lib.ListN.{length, getD}
 use Rattle.record_table.specs.Table.{entriesOf}
 use Rattle.number_bytes.specs.Number.{numberAt}
 use Rattle.record_table.specs.Slot.{slotOf}
-use Rattle.record_defaults.specs.Defaults.{isDefaults}
+use Rattle.record_judge.specs.Defaults.{isDefaults}
 use Rattle.record_judge.specs.Record.{keyOf, keyRow, storedOf}
 use Rattle.record_judge.proofs.Keys.{key-slot}
 use Rattle.book.specs.Book.{recordAt, answerOf, emptyBook}

@@ -13,7 +13,7 @@ use Rattle.record_table.specs.Table.{lines, yr, ln, hd, tp, dr, pe, mt}
 use Rattle.number_bytes.specs.Number.{numberAt, signedOf}
 use Rattle.record_table.specs.Slot.{count, index, total, slots, slotOf}
 use Rattle.record_fields.specs.Entry.{inRange, outsideAt, nonzeroAt}
-use Rattle.record_defaults.specs.Defaults.{isDefaults}
+use Rattle.record_judge.specs.Defaults.{isDefaults}
 use Rattle.record_judge.specs.Record.{nonzeroIn, outsideIn, keyIn, rowIn, rowOf, keyOf, verdict, judgedAs, judged, storedOf}
 use Rattle.book.specs.Book.{recordAt, nothing, emptyBook}
 use Rattle.book.specs.Valid.{Valid}

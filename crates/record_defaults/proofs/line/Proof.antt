@@ -1,6 +1,6 @@
 -- `record_defaults::line` meets its contract: its sixteen bytes are those of the definition, one by one. Assumes nothing.
 use borrow.Author.Needs.{needs}
-use Rattle.record_defaults.specs.Defaults.{lineOf}
+use Rattle.record_defaults.specs.StandsFor.{lineOf}
 use Rattle.record_defaults.proofs.line.Statement.{statement}
 use Rattle.record_defaults.proofs.line.Tie as tie
 
