@@ -8,13 +8,13 @@
  * `place` then says:
  *
  *    1  a posted record is not 16 bytes                         0
- *    2  its mark is not in the table                            0
+ *    2  its mark is none that there is                          0
  *    3  a zero byte is not 0                                    its offset in the record
  *    4  a field is outside its range                            its offset in the record
  *       or, of a month, the efficiency is above 10,000          0
  *    5  the key is already filled                               0
  *    7  the shares of a category sum above 10,000               the lowest such category
- *    8  the year lacks a record that it needs                   0: no YR or no LN; else the
+ *    8  the year lacks a record that it needs                   0: no YR or no line; else the
  *                                                               lowest month, counted from YR
  *    9  no year from 1 to 10                                    0
  *   10  no month of hours, or slices of different lengths       0
@@ -84,7 +84,9 @@ bool cabinet_empty(uint8_t *memory, size_t bytes);
  * cabinet_post has written since. */
 
 /* Posts a record of any length. Taken, it fills its key's slot of the book and
- * nothing else. `record` must not lie inside `book`. */
+ * nothing else: with its own bytes, or, of an LD, with those of the LN that has
+ * the protocol's table solids, mass and B0 for its livestock and state. `record`
+ * must not lie inside `book`. */
 struct cabinet_posted cabinet_post(uint8_t *book, size_t book_bytes,
                                    const uint8_t *record, size_t record_bytes);
 

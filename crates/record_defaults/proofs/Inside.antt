@@ -10,7 +10,7 @@ use lib.ListN.{getD}
 use Rattle.laws.proofs.Table.{each, at}
 use Rattle.record_table.specs.Table.{Range, from, Entry, zeros, field, ln, entriesOf}
 use Rattle.record_fields.specs.Entry.{inRange}
-use Rattle.record_defaults.specs.Tables.{masses, columns, solids, b0s, states, livestocks, stateCount}
+use Rattle.record_defaults.specs.Tables.{masses, columns, solids, b0s, states, livestockCount, stateCount}
 use Rattle.record_defaults.specs.Tables.{massOf, b0Of, byState, solidsEntry, solidsBy, solidsOf, goesByState, asksState, Livestock, State}
 use Rattle.record_defaults.specs.declared.Solids.{Solids}
 use Rattle.record_defaults.specs.declared.Solids.the-variants.{Own, Column}
@@ -42,7 +42,7 @@ mass-test n = inRange (lineRange massAt) [] (getD masses n 0)
 
 pub mass-inside : (livestock : ℕ) → Livestock livestock → (r : List ℕ) → inRange (lineRange massAt) r (massOf livestock) ≡ true
 unfolding each mass-test inRange massOf masses
-mass-inside livestock h r = shown (mass-test (livestock - 1)) (at mass-test livestocks tt (livestock - 1) (omega (arith, h .0, h .1)))
+mass-inside livestock h r = shown (mass-test (livestock - 1)) (at mass-test livestockCount tt (livestock - 1) (omega (arith, h .0, h .1)))
 
 -- Table A.3: B0
 b0-test : ℕ → Bool
@@ -50,7 +50,7 @@ b0-test n = inRange (lineRange b0At) [] (getD b0s n 0)
 
 pub b0-inside : (livestock : ℕ) → Livestock livestock → (r : List ℕ) → inRange (lineRange b0At) r (b0Of livestock) ≡ true
 unfolding each b0-test inRange b0Of b0s
-b0-inside livestock h r = shown (b0-test (livestock - 1)) (at b0-test livestocks tt (livestock - 1) (omega (arith, h .0, h .1)))
+b0-inside livestock h r = shown (b0-test (livestock - 1)) (at b0-test livestockCount tt (livestock - 1) (omega (arith, h .0, h .1)))
 
 -- Table A.5, each column of each state
 state-test : ℕ → ℕ → Bool
@@ -76,7 +76,7 @@ solids-test n = entry-test (getD solids n (Own 0))
 
 entry-passes : (livestock : ℕ) → Livestock livestock → T (entry-test (solidsEntry livestock))
 unfolding each solids-test entry-test inRange solidsEntry solids
-entry-passes livestock h = at solids-test livestocks tt (livestock - 1) (omega (arith, h .0, h .1))
+entry-passes livestock h = at solids-test livestockCount tt (livestock - 1) (omega (arith, h .0, h .1))
 
 pub column-below : (livestock : ℕ) → Livestock livestock → (column : ℕ) → solidsEntry livestock ≡ Column column → column < columns
 unfolding entry-test

@@ -2,7 +2,7 @@
 -- Assumes nothing.
 use Prim.Native.Nat.{ℕ, _-_, _≤_}
 use mathlib.Core.{Bool.Bool, Bool.true, Bool.false, Bool.cond, List.List, List.[], List._∷_}
-use lib.ListN.{length, getD}
+use lib.ListN.{getD}
 use Rattle.record_defaults.specs.declared.Solids.{Solids, the-variants.Own, the-variants.Column}
 
 -- Table A.2: the typical average mass, in tenths of a kilogram
@@ -94,13 +94,13 @@ states =
     (813 ∷ 742 ∷ 734 ∷ 646 ∷ []) ∷ []  -- Wyoming
 
 -- how many livestock and states there are
-abbrev pub livestocks : ℕ
-livestocks = 10
+abbrev pub livestockCount : ℕ
+livestockCount = 10
 
 abbrev pub stateCount : ℕ
 stateCount = 50
 
--- the mass, the B0 and the solids of a livestock, in a state where its solids go by state
+-- the mass and the B0 of a livestock; the solids of a state, by column; and the solids of a livestock, in a state where they go by state
 unfoldable pub massOf : ℕ → ℕ
 massOf livestock = getD masses (livestock - 1) 0
 
@@ -128,9 +128,11 @@ goesByState (Column column) = true
 unfoldable pub asksState : ℕ → Bool
 asksState livestock = goesByState (solidsEntry livestock)
 
+-- a livestock that Table A.2 has
 abbrev pub Livestock : ℕ → Type 0
-Livestock livestock = (1 ≤ livestock) × (livestock ≤ livestocks)
+Livestock livestock = (1 ≤ livestock) × (livestock ≤ livestockCount)
 
+-- the states that a livestock allows: a row of Table A.5 where its solids go by state, and 0 alone where not
 abbrev pub lowestState : ℕ → ℕ
 lowestState livestock = cond (asksState livestock) 1 0
 

@@ -11,7 +11,7 @@ use Rattle.number_bytes.specs.Number.{numberAt}
 use Rattle.record_table.specs.Table.{Range, table, ln, entriesOf, recordBytes, afterMark}
 use Rattle.record_table.specs.Slot.{slotOf}
 use Rattle.record_fields.specs.Entry.{inRange, nonzeroAt}
-use Rattle.record_defaults.specs.Tables.{massOf, b0Of, solidsOf, livestocks, lowestState, highestState}
+use Rattle.record_defaults.specs.Tables.{massOf, b0Of, solidsOf, livestockCount, lowestState, highestState}
 use Rattle.record_defaults.specs.StandsFor.{livestockAt, stateAt, Named, lineOf}
 use Rattle.record_judge.specs.Defaults.{defaultsLetters, isDefaults, defaultsEntries}
 use Rattle.record_defaults.proofs.Inside.{lineRange, solidsAt, massAt, b0At, mass-inside, b0-inside, solids-inside}
@@ -51,7 +51,7 @@ line-key r = refl
 
 module _ (r : List ℕ) (g : Ranged afterMark (defaultsEntries r) r) where
   pub named : Named r
-  named = (within-byte r livestockAt 1 livestocks (g .1 .1 .1 .0), within-byte r stateAt (lowestState (getD r livestockAt 0)) (highestState (getD r livestockAt 0)) (g .1 .1 .1 .1 .0))
+  named = (within-byte r livestockAt 1 livestockCount (g .1 .1 .1 .0), within-byte r stateAt (lowestState (getD r livestockAt 0)) (highestState (getD r livestockAt 0)) (g .1 .1 .1 .1 .0))
 
   read : (range : Range) {m n : ℕ} → m ≡ n → inRange range (lineOf r) n ≡ true → inRange range (lineOf r) m ≡ true
   read range e = subst (λ (x : ℕ). inRange range (lineOf r) x ≡ true) (sym e)

@@ -5,7 +5,7 @@ use mathlib.Core.List.{List, [], _∷_}
 use lib.ListN.{getD}
 use Rattle.record_table.specs.{Table.from, Table.afterMark, Slot.index}
 use Rattle.record_fields.specs.Entry.{outsideAt}
-use Rattle.record_defaults.specs.Tables.{livestocks, lowestState, highestState}
+use Rattle.record_defaults.specs.Tables.{livestockCount, lowestState, highestState}
 use Rattle.record_defaults.specs.StandsFor.{livestockAt, stateAt}
 use Rattle.record_judge.specs.Record.{keyIn, verdict}
 use Rattle.record_judge.specs.declared.Judged.{Judged}
@@ -22,5 +22,5 @@ keyed first highest r nonzero outside = verdict nonzero (keyOutside afterMark hi
 -- the livestock's offset where it is outside, the state's where that is, or a later place
 unfoldable pub livestockOutside : List ℕ → ℕ → ℕ
 livestockOutside r later =
-    outsideAt r livestockAt 1 (from 1 livestocks)
+    outsideAt r livestockAt 1 (from 1 livestockCount)
     (outsideAt r stateAt 1 (from (lowestState (getD r livestockAt 0)) (highestState (getD r livestockAt 0))) later)

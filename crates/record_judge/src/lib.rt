@@ -16,7 +16,7 @@ ghost use lib.Signed.{leZ};
 ghost use Rattle.refusals.specs.Refusal.{refusal};
 ghost use Rattle.record_table.specs.Table.{unless, yr, ln, hd, tp, dr, pe, mt, entriesOf, recordBytes};
 ghost use Rattle.record_fields.specs.Entry.{outsideAt};
-ghost use Rattle.record_defaults.specs.Tables.{livestocks, Livestock, lowestState, highestState};
+ghost use Rattle.record_defaults.specs.Tables.{livestockCount, Livestock, lowestState, highestState};
 ghost use Rattle.record_defaults.specs.StandsFor.{stateAt};
 ghost use Rattle.record_judge.specs.Defaults.{defaultsEntries};
 ghost use Rattle.record_judge.specs.declared.Judged.the-variants.{Refused};
@@ -195,7 +195,7 @@ fn livestock_outside(posted: &[u8], later: usize) -> usize
 }
 
 fn is_livestock(livestock: u8) -> bool
-    ensures { λ r. ⌜ r ≡ (leb 1 livestock && leb livestock livestocks) ⌝ }
+    ensures { λ r. ⌜ r ≡ (leb 1 livestock && leb livestock livestockCount) ⌝ }
 {
     1 <= livestock && livestock <= record_defaults::LIVESTOCK as u8
 }
