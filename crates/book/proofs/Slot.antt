@@ -69,6 +69,10 @@ module _ (book : List ℕ) (k : ℕ) (bytes : List ℕ) (size : length book ≡ 
   pub slot-other : (j : ℕ) → j < slots → (j ≡ k → ⊥) → recordAt (bookWith book k bytes) j ≡ recordAt book j
   slot-other j h ne = slot-ext (bookWith book k bytes) book j with-length size h (λ o ho. other-byte j o ne ho)
 
+-- bytes copied over no more than as many
+pub copied-over : (copied old : List ℕ) → length old ≤ length copied → take (length copied) copied ++ drop (length copied) old ≡ copied
+copied-over copied old h = rw (drop-of-length-le {A = ℕ} old {i = length copied} h) (append-nil (take (length copied) copied) ∙ take-length copied)
+
 -- a copy of sixteen bytes over the part of the book that is slot k
 pub written :
     (book bytes : List ℕ) (k : ℕ) (part : List ℕ) → length bytes ≡ recordBytes →
@@ -77,7 +81,6 @@ pub written :
 unfolding bookWith
 written book bytes k part l e =
     let s : k * recordBytes + recordBytes - k * recordBytes ≡ recordBytes = omega arith in
-    let none : drop (length bytes) (take (k * recordBytes + recordBytes - k * recordBytes) (drop (k * recordBytes) book)) ≡ [] =
-    drop-of-length-le (take (k * recordBytes + recordBytes - k * recordBytes) (drop (k * recordBytes) book)) {i = length bytes} (simp length-take (omega arith)) in
-    let whole : part ≡ bytes = e ∙ rw none (append-nil (take (length bytes) bytes) ∙ take-length bytes) in
+    let old = take (k * recordBytes + recordBytes - k * recordBytes) (drop (k * recordBytes) book) in
+    let whole : part ≡ bytes = e ∙ copied-over bytes old (simp length-take (omega arith)) in
     rw (whole, s) (rw drop-drop refl)

@@ -23,9 +23,12 @@ free book k = eqb (getD book (k * recordBytes) 0) 0
 abbrev pub nothing : List ℕ
 nothing = replicate recordBytes 0
 
--- the book with these sixteen bytes in slot k
+-- the book with these sixteen bytes in slot k; and with them there if the slot is not filled
 unfoldable pub bookWith : List ℕ → ℕ → List ℕ → List ℕ
 bookWith book k bytes = take (k * recordBytes) book ++ (bytes ++ drop (k * recordBytes + recordBytes) book)
+
+abbrev pub bookFilled : List ℕ → ℕ → List ℕ → List ℕ
+bookFilled book k bytes = cond (free book k) (bookWith book k bytes) book
 
 -- What posting answers, and the book afterwards, by what the record is judged to do. Bytes are put into a slot that is not filled, and refused where it
 -- is. Emptying a slot is taken whatever stands there: no mark of the table does it yet.
@@ -36,7 +39,7 @@ answerBy book (Empty k) = Taken
 
 unfoldable pub bookBy : List ℕ → List ℕ → Judged → List ℕ
 bookBy book r (RefusedRecord refusal) = book
-bookBy book r (Put k) = cond (free book k) (bookWith book k (storedOf r)) book
+bookBy book r (Put k) = bookFilled book k (storedOf r)
 bookBy book r (Empty k) = bookWith book k nothing
 
 unfoldable pub answerOf : List ℕ → List ℕ → Posted

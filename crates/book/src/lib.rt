@@ -9,7 +9,7 @@ ghost use Rattle.record_table.specs.Slot.{slots};
 ghost use Rattle.record_judge.specs.Record.{judged};
 ghost use Rattle.record_judge.specs.declared.Judged.the-variants.{Put};
 ghost use Rattle.book.specs.declared.Posted.the-variants.{Taken};
-ghost use Rattle.book.specs.Book.{bookBytes, nothing, bookWith, answerBy, bookBy, answerOf, bookAfter, emptyBook};
+ghost use Rattle.book.specs.Book.{bookBytes, nothing, bookWith, bookFilled, answerBy, bookBy, answerOf, bookAfter, emptyBook};
 ghost use Rattle.book.specs.Valid.{Valid};
 ghost use Rattle.book.specs.Run.{recordsOf, answerAll, bookAll};
 
@@ -46,11 +46,23 @@ pub fn post(book: &mut [u8], posted: &[u8]) -> Posted
     }
 }
 
-// Puts a record's bytes into a slot that is not filled.
+// Puts a record's bytes into its slot: of a defaults line, those of the LN that it stands for (02, (i)).
 fn put(book: &mut [u8], slot: usize, posted: &[u8]) -> Posted
     requires { ⌜ (length (now book) ≡ bookBytes) × (slot < slots) × (judged (now posted) ≡ Put slot) ⌝ }
     ensures { λ r. ⌜ r ≡ answerBy (now (book .entry)) (Put slot) ⌝ }
     ensures { λ _. ⌜ now (book .exit) ≡ bookBy (now (book .entry)) (now (posted .entry)) (Put slot) ⌝ }
+{
+    if record_judge::is_defaults(posted) {
+        return fill(book, slot, &record_defaults::line(posted));
+    }
+    fill(book, slot, posted)
+}
+
+// Fills a slot, where it is not filled. From an array of the function's own, sixteen bytes are moved as one.
+fn fill(book: &mut [u8], slot: usize, content: &[u8]) -> Posted
+    requires { ⌜ (length (now book) ≡ bookBytes) × (slot < slots) × (length (now content) ≡ recordBytes) ⌝ }
+    ensures { λ r. ⌜ r ≡ answerBy (now (book .entry)) (Put slot) ⌝ }
+    ensures { λ _. ⌜ now (book .exit) ≡ bookFilled (now (book .entry)) slot (now (content .entry)) ⌝ }
 {
     if book[slot * record_table::RECORD] != 0 {
         return Posted::Refused(Refusal {
@@ -58,7 +70,8 @@ fn put(book: &mut [u8], slot: usize, posted: &[u8]) -> Posted
             place: 0,
         });
     }
-    let record = record_judge::stored(posted);
+    let mut record = [0u8; record_table::RECORD];
+    bytes::copy(content, &mut record);
     write(book, slot, &record);
     Posted::Taken
 }
@@ -72,7 +85,6 @@ fn clear(book: &mut [u8], slot: usize) -> Posted
     Posted::Taken
 }
 
-// From an array of the caller's own, sixteen bytes are moved as one.
 fn write(book: &mut [u8], slot: usize, content: &[u8])
     requires { ⌜ (length (now book) ≡ bookBytes) × (slot < slots) × (length (now content) ≡ recordBytes) ⌝ }
     ensures { λ _. ⌜ now (book .exit) ≡ bookWith (now (book .entry)) slot (now (content .entry)) ⌝ }

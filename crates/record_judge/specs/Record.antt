@@ -1,7 +1,7 @@
 -- What a record does, judged alone (01, "The records", "Refusal numbers"; 02, (i)): it is refused, 1 to 4, or it puts bytes into the slot of its key.
 -- Assumes nothing.
 use Prim.Native.Nat.{ℕ, suc, _+_}
-use mathlib.Core.{Bool.cond, List.List, List.[], List._∷_, Path._≡_}
+use mathlib.Core.{Bool.cond, List.List, List.[], List._∷_}
 use lib.{Dec.eqb, Dec.ltb, ListN.length, ListN.getD}
 use Rattle.record_table.specs.Table.{Entry, zeros, field, Row, table, ln, highestOf, entriesOf, recordBytes, afterMark}
 use Rattle.number_bytes.specs.Number.{numberAt}
@@ -72,8 +72,3 @@ judged r =
 -- the sixteen bytes that a record puts into its slot: the record as it came; of a defaults line, the LN that it stands for
 unfoldable pub storedOf : List ℕ → List ℕ
 storedOf r = cond (isDefaults r) (lineOf r) r
-
--- a record that puts its bytes into a slot
-pub record Puts (r : List ℕ) : Type 0 where
-  pub slot : ℕ
-  pub judged-so : judged r ≡ Put slot

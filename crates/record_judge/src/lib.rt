@@ -18,9 +18,9 @@ ghost use Rattle.record_table.specs.Table.{unless, yr, ln, hd, tp, dr, pe, mt, 
 ghost use Rattle.record_fields.specs.Entry.{outsideAt};
 ghost use Rattle.record_defaults.specs.Tables.{livestockCount, Livestock, lowestState, highestState};
 ghost use Rattle.record_defaults.specs.StandsFor.{stateAt};
-ghost use Rattle.record_judge.specs.Defaults.{defaultsEntries};
+ghost use Rattle.record_judge.specs.Defaults.{isDefaults, defaultsEntries};
 ghost use Rattle.record_judge.specs.declared.Judged.the-variants.{Refused};
-ghost use Rattle.record_judge.specs.Record.{nowhere, outsideIn, verdict, judgedBy, judgedAs, judged, storedOf, Puts};
+ghost use Rattle.record_judge.specs.Record.{nowhere, outsideIn, verdict, judgedBy, judgedAs, judged};
 ghost use Rattle.record_judge.specs.Keyed.{keyed, livestockOutside};
 
 // The width of a mark, the offsets of the key's bytes after it, and the place that stands for "not found".
@@ -35,7 +35,7 @@ const NOWHERE: usize = record_table::RECORD;
 // The system that is anaerobic.
 const ANAEROBIC: u8 = 0;
 
-// What a record is judged to do: put sixteen bytes into a slot, which `stored` gives; empty a slot, which no mark of the table does yet; or nothing, since
+// What a record is judged to do: put sixteen bytes into a slot, which are its own unless it is a defaults line; empty a slot, which no mark of the table does yet; or nothing, since
 // it is refused.
 pub enum Judged {
     Refused(Refusal),
@@ -69,17 +69,12 @@ fn refused(number: u8, place: usize) -> Judged
     Judged::Refused(Refusal { number, place })
 }
 
-// The sixteen bytes that a record puts into its slot: those that came, or those of the LN that a defaults line stands for.
-pub fn stored(posted: &[u8]) -> [u8; record_table::RECORD]
-    requires { ⌜ Puts (now posted) ⌝ }
-    ensures { λ r. ⌜ r ≡ storedOf (now (posted .entry)) ⌝ }
+// Whether a record is a defaults line, which puts the LN that it stands for into its slot (`record_defaults::line`); any other puts itself there.
+pub fn is_defaults(posted: &[u8]) -> bool
+    requires { ⌜ length (now posted) ≡ recordBytes ⌝ }
+    ensures { λ r. ⌜ r ≡ isDefaults (now (posted .entry)) ⌝ }
 {
-    if number_bytes::number(posted, 0, MARK) == rows::LD {
-        return record_defaults::line(posted);
-    }
-    let mut record = [0u8; record_table::RECORD];
-    bytes::copy(posted, &mut record);
-    record
+    number_bytes::number(posted, 0, MARK) == rows::LD
 }
 
 // A function for each mark. It looks at the last entry first, so that an earlier place replaces a later one, and at its key last of all.
