@@ -13,7 +13,7 @@ use Rattle.record_table.specs.Table.{ln, entriesOf}
 use Rattle.record_defaults.specs.Tables.{massOf, b0Of, solidsOf}
 use Rattle.record_defaults.specs.StandsFor.{livestockAt, stateAt, lineOf}
 use Rattle.record_judge.specs.Defaults.{isDefaults}
-use Rattle.record_judge.specs.Record.{keyIn, keyOf, keyRow, judged, storedOf}
+use Rattle.record_judge.specs.Record.{keyIn, keyOf, judged, storedOf}
 use Rattle.record_judge.specs.declared.Judged.{Judged}
 use Rattle.record_judge.specs.declared.Judged.the-variants.{Refused as RefusedRecord, Put, Empty}
 use Rattle.record_judge.proofs.Defaults.{two-bytes, one-byte}

@@ -1,6 +1,6 @@
 -- The values of the protocol's tables are inside 01's ranges, which are those of LN's row: one test over the whole of each table, and what it shows of a
 -- livestock. Assumes nothing.
-use mathlib.Core.Path.{_≡_, refl, sym, ap, _∙_, subst}
+use mathlib.Core.Path.{_≡_, refl, subst}
 use mathlib.Core.Bool.{Bool, true, false}
 use mathlib.Core.List.{List, []}
 use Prim.Native.Nat.{ℕ, _-_, _≤_, _<_}

@@ -1,9 +1,9 @@
 -- A defaults line whose fields are in their ranges names a livestock and a state of the tables, and the LN that it stands for is a record of LN's row that
 -- is put into the slot of its line. Assumes nothing.
-use mathlib.Core.Path.{_≡_, refl, sym, ap, _∙_, subst}
+use mathlib.Core.Path.{_≡_, refl, sym, ap, subst}
 use mathlib.Core.Bool.{true, false}
-use mathlib.Core.List.{List, [], _∷_}
-use Prim.Native.Nat.{ℕ, _+_, _*_, _/_, _%_, _≤_}
+use mathlib.Core.List.{List}
+use Prim.Native.Nat.{ℕ, _+_, _*_, _/_, _%_}
 use native.Mathlib.Omega.{arith}
 use borrow.Author.Tests.{eqb-true}
 use lib.ListN.{length, getD}
@@ -15,10 +15,9 @@ use Rattle.record_defaults.specs.Tables.{massOf, b0Of, solidsOf, livestockCount
 use Rattle.record_defaults.specs.StandsFor.{livestockAt, stateAt, Named, lineOf}
 use Rattle.record_judge.specs.Defaults.{defaultsLetters, isDefaults, defaultsEntries}
 use Rattle.record_defaults.proofs.Inside.{lineRange, solidsAt, massAt, b0At, mass-inside, b0-inside, solids-inside}
-use Rattle.record_judge.specs.Record.{nowhere, nonzeroIn, outsideIn, keyIn, rowIn, rowOf, keyOf, verdict, judgedAs, judged}
+use Rattle.record_judge.specs.Record.{nonzeroIn, keyIn, rowIn, rowOf, keyOf, verdict, judgedAs, judged}
 use Rattle.record_judge.specs.declared.Judged.the-variants.{Put}
 use Rattle.record_judge.proofs.Entries.{Ranged, none-outside, within-byte}
-use Rattle.record_judge.proofs.Marks.{by-row}
 
 -- a number is made again by its two bytes, and by one
 pub two-bytes : (n : ℕ) → n % 256 + 256 * (n / 256 + 256 * 0) ≡ n
