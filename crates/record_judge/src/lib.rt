@@ -35,8 +35,8 @@ const NOWHERE: usize = record_table::RECORD;
 // The system that is anaerobic.
 const ANAEROBIC: u8 = 0;
 
-// What a record is judged to do: put sixteen bytes into a slot, which are its own unless it is a defaults line; empty a slot, which no mark of the table does yet; or nothing, since
-// it is refused.
+// What a record is judged to do: put sixteen bytes into a slot, which are its own unless it is a defaults line; empty a slot, which no mark does yet; or
+// nothing, since it is refused.
 pub enum Judged {
     Refused(Refusal),
     Put(usize),
