@@ -31,7 +31,7 @@ abbrev pub bookFilled : List ℕ → ℕ → List ℕ → List ℕ
 bookFilled book k bytes = cond (free book k) (bookWith book k bytes) book
 
 -- What posting answers, and the book afterwards, by what the record is judged to do. Bytes are put into a slot that is not filled, and refused where it
--- is. Emptying a slot is taken whatever stands there: no mark of the table does it yet.
+-- is. Emptying a slot is taken whatever stands there: no mark does it yet.
 unfoldable pub answerBy : List ℕ → Judged → Posted
 answerBy book (RefusedRecord refusal) = Refused refusal
 answerBy book (Put k) = cond (free book k) Taken (Refused (refusal alreadyFilled 0))

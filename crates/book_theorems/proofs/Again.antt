@@ -8,16 +8,16 @@ use Prim.Native.Nat.{ℕ, _<_}
 use lib.Dec.{eqb}
 use lib.ListN.{length}
 use Rattle.record_table.specs.Table.{recordBytes}
-use Rattle.record_table.specs.Slot.{slots}
+use Rattle.record_table.specs.Slot.{slots, slotOf}
 use Rattle.refusals.specs.Refusal.{refusal, notSixteenBytes, alreadyFilled}
 use Rattle.refusals.specs.declared.Refusal.{Refusal}
-use Rattle.record_judge.specs.Record.{judged, storedOf}
+use Rattle.record_judge.specs.Record.{keyOf, keyRow, judged, storedOf}
 use Rattle.record_judge.specs.declared.Judged.{Judged}
 use Rattle.record_judge.specs.declared.Judged.the-variants.{Refused as RefusedRecord, Put, Empty}
 use Rattle.record_judge.proofs.Marks.{short}
 use Rattle.record_judge.proofs.Taken.{never-empties}
 use Rattle.record_judge.proofs.StoredBytes.{stored-long, stored-judged}
-use Rattle.record_judge.proofs.Keys.{put-below}
+use Rattle.record_judge.proofs.Keys.{put-below, key-slot}
 use Rattle.book.specs.Book.{free, bookWith, answerBy, bookBy, answerOf, bookAfter}
 use Rattle.book.specs.Valid.{Valid}
 use Rattle.book.specs.declared.Posted.the-variants.{Taken, Refused}
@@ -122,6 +122,17 @@ slot-again book v r s taken same ss =
     let own = taken-fills book r (v .size) taken in
     let full = stays-each (bookAfter book r) (kept book r v) ss (own .slot) (own .there .below) (fills book r v (own .slot) (own .judged-so)) in
     ap (answerBy (bookEach (bookAfter book r) ss)) (same ∙ own .judged-so) ∙ ap (λ (b : Bool). cond b Taken (Refused (refusal alreadyFilled 0))) full
+
+-- the key tells the slot: so an LN after an LD of its line, or an LD after an LN
+pub key-again :
+    (book : List ℕ) → Valid book → (r s : List ℕ) → answerOf book r ≡ Taken → (k : ℕ) → judged s ≡ Put k →
+    keyRow s ≡ keyRow r → keyOf (keyRow s) s ≡ keyOf (keyRow r) r → (ss : List (List ℕ)) →
+    answerOf (bookEach (bookAfter book r) ss) s ≡ Refused (refusal alreadyFilled 0)
+key-again book v r s taken k e row key ss =
+    let own = taken-fills book r (v .size) taken in
+    let one : k ≡ own .slot =
+    sym (key-slot s k e) ∙ ap (slotOf (keyRow s)) key ∙ ap (λ (n : ℕ). slotOf n (keyOf (keyRow r) r)) row ∙ key-slot r (own .slot) (own .judged-so) in
+    slot-again book v r s taken (e ∙ ap Put one ∙ sym (own .judged-so)) ss
 
 pub taken-again :
     (book : List ℕ) → Valid book → (r : List ℕ) → answerOf book r ≡ Taken → (ss : List (List ℕ)) → answerOf (bookEach (bookAfter book r) ss) r ≡ Refused (refusal alreadyFilled 0)

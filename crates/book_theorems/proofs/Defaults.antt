@@ -11,7 +11,8 @@ use Rattle.refusals.specs.declared.Refusal.{Refusal}
 use Rattle.number_bytes.specs.Number.{numberAt}
 use Rattle.record_table.specs.Table.{ln, entriesOf}
 use Rattle.record_defaults.specs.Tables.{massOf, b0Of, solidsOf}
-use Rattle.record_defaults.specs.StandsFor.{livestockAt, stateAt, lineOf}
+use Rattle.record_defaults.specs.StandsFor.{livestockAt, stateAt, standsFor}
+use Rattle.record_defaults.proofs.Inside.{solidsAt, massAt, b0At}
 use Rattle.record_judge.specs.Defaults.{isDefaults}
 use Rattle.record_judge.specs.Record.{keyIn, keyOf, judged, storedOf}
 use Rattle.record_judge.specs.declared.Judged.{Judged}
@@ -42,8 +43,8 @@ pub record Spurned (r : List ℕ) : Type 0 where
 
 -- posted to every book as its LN, which the empty book takes
 pub record AsLine (r : List ℕ) : Type 0 where
-  pub alike : (book : List ℕ) → Alike book r (lineOf r)
-  pub line-taken : answerOf emptyBook (lineOf r) ≡ Taken
+  pub alike : (book : List ℕ) → Alike book r (standsFor r)
+  pub line-taken : answerOf emptyBook (standsFor r) ≡ Taken
 
 pub data Outcome (r : List ℕ) : Type 0 where
   spurned : Spurned r → Outcome r
@@ -69,7 +70,7 @@ module _ (r : List ℕ) (k : ℕ) (e : judged r ≡ Put k) where
       ap (answerBy emptyBook) (stored-judged r k e)
       ∙ ap (λ (b : Bool). cond b Taken (Refused (refusal alreadyFilled 0))) (empty-free emptyBook k (empty-slot k (put-below r k e)))
 
-by : (r : List ℕ) → storedOf r ≡ lineOf r → (found : Judged) → judged r ≡ found → Outcome r
+by : (r : List ℕ) → storedOf r ≡ standsFor r → (found : Judged) → judged r ≡ found → Outcome r
 unfolding answerOf answerBy bookAfter bookBy
 by r line (RefusedRecord x) e = spurned (record { refusal = x; judged-so = e; refused = λ book. ap (answerBy book) e; same = λ book. ap (bookBy book r) e })
 by r line (Put k) e =
@@ -82,22 +83,22 @@ by r line (Empty k) e = absurd (never-empties r k e)
 pub posted-as-line : (r : List ℕ) → isDefaults r ≡ true → Outcome r
 posted-as-line r d = by r (stored-line r d) (judged r) refl
 
--- and what is read of it afterwards is what the tables have: table solids, mass and B0, which are entries 4, 5 and 7 of LN's row
+-- and what is read of it afterwards is what the tables have: table solids, mass and B0, by their entries of LN's row
 module _ (book r : List ℕ) (size : length book ≡ bookBytes) (t : answerOf book r ≡ Taken) (d : isDefaults r ≡ true) where
-  field : (n : ℕ) → n < length (entriesOf ln) → seenOf (bookAfter book r) ln (getD r 2 0 ∷ []) n ≡ Value (numberAt (lineOf r) (placeOf ln n) (bytesOf ln n))
+  field : (n : ℕ) → n < length (entriesOf ln) → seenOf (bookAfter book r) ln (getD r 2 0 ∷ []) n ≡ Value (numberAt (standsFor r) (placeOf ln n) (bytesOf ln n))
   unfolding keyOf keyIn
   field n h =
       subst (λ (m : ℕ). n < length (entriesOf m) → seenOf (bookAfter book r) m (keyOf m r) n ≡ Value (numberAt (storedOf r) (placeOf m n) (bytesOf m n))) (defaults-row r d) (read-stored book r size t n) h
       ∙ ap (λ (bytes : List ℕ). Value (numberAt bytes (placeOf ln n) (bytesOf ln n))) (stored-line r d)
 
-  pub read-solids : seenOf (bookAfter book r) ln (getD r 2 0 ∷ []) 4 ≡ Value (solidsOf (getD r livestockAt 0) (getD r stateAt 0))
-  unfolding numberAt lineOf
-  read-solids = field 4 (lit≤ tt) ∙ ap Value (two-bytes (solidsOf (getD r livestockAt 0) (getD r stateAt 0)))
+  pub read-solids : seenOf (bookAfter book r) ln (getD r 2 0 ∷ []) solidsAt ≡ Value (solidsOf (getD r livestockAt 0) (getD r stateAt 0))
+  unfolding numberAt standsFor
+  read-solids = field solidsAt (lit≤ tt) ∙ ap Value (two-bytes (solidsOf (getD r livestockAt 0) (getD r stateAt 0)))
 
-  pub read-mass : seenOf (bookAfter book r) ln (getD r 2 0 ∷ []) 5 ≡ Value (massOf (getD r livestockAt 0))
-  unfolding numberAt lineOf
-  read-mass = field 5 (lit≤ tt) ∙ ap Value (two-bytes (massOf (getD r livestockAt 0)))
+  pub read-mass : seenOf (bookAfter book r) ln (getD r 2 0 ∷ []) massAt ≡ Value (massOf (getD r livestockAt 0))
+  unfolding numberAt standsFor
+  read-mass = field massAt (lit≤ tt) ∙ ap Value (two-bytes (massOf (getD r livestockAt 0)))
 
-  pub read-b0 : seenOf (bookAfter book r) ln (getD r 2 0 ∷ []) 7 ≡ Value (b0Of (getD r livestockAt 0))
-  unfolding numberAt lineOf
-  read-b0 = field 7 (lit≤ tt) ∙ ap Value (one-byte (b0Of (getD r livestockAt 0)))
+  pub read-b0 : seenOf (bookAfter book r) ln (getD r 2 0 ∷ []) b0At ≡ Value (b0Of (getD r livestockAt 0))
+  unfolding numberAt standsFor
+  read-b0 = field b0At (lit≤ tt) ∙ ap Value (one-byte (b0Of (getD r livestockAt 0)))

@@ -4,7 +4,7 @@ use mathlib.Core.Path.{_≡_, refl}
 use mathlib.Core.List.{List, [], _∷_}
 use Prim.Native.Nat.{ℕ}
 use Rattle.record_defaults.specs.Tables.{masses, solids, b0s, states, massOf, b0Of, byState, solidsEntry, solidsBy, solidsOf}
-use Rattle.record_defaults.specs.StandsFor.{lineOf}
+use Rattle.record_defaults.specs.StandsFor.{standsFor}
 
 -- rows of Table A.2, and of Table A.5
 abbrev dairyCow : ℕ
@@ -40,10 +40,10 @@ pub record Figures : Type 0 where
   pub swine-solids : solidsOf nurserySwine noState ≡ 889
   pub swine-b0 : b0Of nurserySwine ≡ 48
   pub heifer-solids : solidsOf grazingHeifer nevada ≡ 1050
-  pub cow-line : lineOf named ≡ entered
+  pub cow-line : standsFor named ≡ entered
 
 pub figures : Figures
-unfolding masses solids b0s states massOf b0Of byState solidsEntry solidsBy solidsOf lineOf
+unfolding masses solids b0s states massOf b0Of byState solidsEntry solidsBy solidsOf standsFor
 figures =
     record {
       cow-mass = refl;

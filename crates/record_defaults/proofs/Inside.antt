@@ -5,15 +5,15 @@ use mathlib.Core.Bool.{Bool, true, false}
 use mathlib.Core.List.{List, []}
 use Prim.Native.Nat.{ℕ, _-_, _≤_, _<_}
 use native.Mathlib.Omega.{arith}
-use lib.Dec.{T, ltb, ltb→lt}
-use lib.ListN.{getD}
+use lib.Dec.{T, eqb, ltb, eqb→eq, ltb→lt}
+use lib.ListN.{length, getD}
 use Rattle.laws.proofs.Table.{each, at}
 use Rattle.record_table.specs.Table.{Range, from, Entry, zeros, field, ln, entriesOf}
 use Rattle.record_fields.specs.Entry.{inRange}
 use Rattle.record_defaults.specs.Tables.{masses, columns, solids, b0s, states, livestockCount, stateCount}
 use Rattle.record_defaults.specs.Tables.{massOf, b0Of, byState, solidsEntry, solidsBy, solidsOf, goesByState, asksState, Livestock, State}
-use Rattle.record_defaults.specs.declared.Solids.{Solids}
-use Rattle.record_defaults.specs.declared.Solids.the-variants.{Own, Column}
+use Rattle.record_defaults.specs.declared.SolidsEntry.{SolidsEntry}
+use Rattle.record_defaults.specs.declared.SolidsEntry.the-variants.{Own, Column}
 
 -- the range of an entry of LN's row, and the entries that the tables fill, counted from the line as 0
 abbrev rangeIn : Entry → Range
@@ -35,6 +35,28 @@ b0At = 7
 shown : (b : Bool) → T b → b ≡ true
 shown true t = refl
 shown false t = absurd t
+
+-- The tests go over whole tables: each has an entry for every livestock, or for every state and column, and no more.
+four : ℕ → Bool
+four n = eqb (length (getD states n [])) columns
+
+pub record Whole : Type 0 where
+  pub each-mass : length masses ≡ livestockCount
+  pub each-solids : length solids ≡ livestockCount
+  pub each-b0 : length b0s ≡ livestockCount
+  pub each-state : length states ≡ stateCount
+  pub each-column : (n : ℕ) → n < stateCount → length (getD states n []) ≡ columns
+
+pub whole : Whole
+unfolding each four masses solids b0s states
+whole =
+    record {
+      each-mass = refl;
+      each-solids = refl;
+      each-b0 = refl;
+      each-state = refl;
+      each-column = λ n h. eqb→eq (length (getD states n [])) columns (at four stateCount tt n h);
+    }
 
 -- Table A.2
 mass-test : ℕ → Bool
@@ -67,7 +89,7 @@ state-inside state column low high l r =
     shown (state-test (state - 1) column) (at (state-test (state - 1)) columns row column l)
 
 -- Table A.3: solids of a livestock's own, or a column that Table A.5 has
-entry-test : Solids → Bool
+entry-test : SolidsEntry → Bool
 entry-test (Own own) = inRange (lineRange solidsAt) [] own
 entry-test (Column column) = ltb column columns
 
@@ -80,7 +102,7 @@ entry-passes livestock h = at solids-test livestockCount tt (livestock - 1) (ome
 
 pub column-below : (livestock : ℕ) → Livestock livestock → (column : ℕ) → solidsEntry livestock ≡ Column column → column < columns
 unfolding entry-test
-column-below livestock h column e = ltb→lt column columns (subst (λ (entry : Solids). T (entry-test entry)) e (entry-passes livestock h))
+column-below livestock h column e = ltb→lt column columns (subst (λ (entry : SolidsEntry). T (entry-test entry)) e (entry-passes livestock h))
 
 -- a livestock whose solids go by state is asked for one of the states
 pub asked : (livestock state : ℕ) → State livestock state → (column : ℕ) → solidsEntry livestock ≡ Column column → (1 ≤ state) × (state ≤ stateCount)
@@ -89,9 +111,9 @@ asked livestock state s column e = rw e at s
 
 -- so the solids of a livestock are inside
 module _ (livestock state : ℕ) (h : Livestock livestock) (s : State livestock state) (r : List ℕ) where
-  by-entry : (entry : Solids) → solidsEntry livestock ≡ entry → inRange (lineRange solidsAt) r (solidsBy entry state) ≡ true
+  by-entry : (entry : SolidsEntry) → solidsEntry livestock ≡ entry → inRange (lineRange solidsAt) r (solidsBy entry state) ≡ true
   unfolding solidsBy entry-test inRange
-  by-entry (Own own) e = shown (inRange (lineRange solidsAt) [] own) (subst (λ (entry : Solids). T (entry-test entry)) e (entry-passes livestock h))
+  by-entry (Own own) e = shown (inRange (lineRange solidsAt) [] own) (subst (λ (entry : SolidsEntry). T (entry-test entry)) e (entry-passes livestock h))
   by-entry (Column column) e =
       let is = asked livestock state s column e in
       state-inside state column (is .0) (is .1) (column-below livestock h column e) r

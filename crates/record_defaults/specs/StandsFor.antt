@@ -17,8 +17,8 @@ abbrev pub Named : List ℕ → Type 0
 Named r = Livestock (getD r livestockAt 0) × State (getD r livestockAt 0) (getD r stateAt 0)
 
 -- the LN that it stands for: line, system, category, share and conversion factor as they came, table solids, mass and B0 from the tables
-unfoldable pub lineOf : List ℕ → List ℕ
-lineOf r =
+unfoldable pub standsFor : List ℕ → List ℕ
+standsFor r =
     let at : ℕ → ℕ = λ offset. getD r offset 0 in
     let solids = solidsOf (at livestockAt) (at stateAt) in
     let mass = massOf (at livestockAt) in

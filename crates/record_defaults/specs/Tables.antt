@@ -3,7 +3,7 @@
 use Prim.Native.Nat.{ℕ, _-_, _≤_}
 use mathlib.Core.{Bool.Bool, Bool.true, Bool.false, Bool.cond, List.List, List.[], List._∷_}
 use lib.ListN.{getD}
-use Rattle.record_defaults.specs.declared.Solids.{Solids, the-variants.Own, the-variants.Column}
+use Rattle.record_defaults.specs.declared.SolidsEntry.{SolidsEntry, the-variants.Own, the-variants.Column}
 
 -- Table A.2: the typical average mass, in tenths of a kilogram
 unfoldable pub masses : List ℕ
@@ -30,7 +30,7 @@ columns = 4
 
 -- Table A.3: the solids, in hundredths of a kilogram a day for 1,000 kg of animal, or the column of Table A.5 that the row is sent to; and the B0, in
 -- hundredths
-unfoldable pub solids : List Solids
+unfoldable pub solids : List SolidsEntry
 solids =
     Column dairyCows ∷ Own 556 ∷ Column heifers ∷
     Own 604 ∷ Own 641 ∷ Column heifersGrazing ∷ Column cowsGrazing ∷
@@ -110,10 +110,10 @@ b0Of livestock = getD b0s (livestock - 1) 0
 unfoldable pub byState : ℕ → ℕ → ℕ
 byState state column = getD (getD states (state - 1) []) column 0
 
-unfoldable pub solidsEntry : ℕ → Solids
+unfoldable pub solidsEntry : ℕ → SolidsEntry
 solidsEntry livestock = getD solids (livestock - 1) (Own 0)
 
-unfoldable pub solidsBy : Solids → ℕ → ℕ
+unfoldable pub solidsBy : SolidsEntry → ℕ → ℕ
 solidsBy (Own own) state = own
 solidsBy (Column column) state = byState state column
 
@@ -121,7 +121,7 @@ unfoldable pub solidsOf : ℕ → ℕ → ℕ
 solidsOf livestock state = solidsBy (solidsEntry livestock) state
 
 -- whether a livestock's solids go by state
-unfoldable pub goesByState : Solids → Bool
+unfoldable pub goesByState : SolidsEntry → Bool
 goesByState (Own own) = false
 goesByState (Column column) = true
 

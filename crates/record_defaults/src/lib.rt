@@ -6,18 +6,18 @@ ghost use Prim.Native.Nat.{_≤_, _<_, _/_, _%_};
 ghost use lib.ListN.{length};
 ghost use Rattle.record_table.specs.Table.{recordBytes};
 ghost use Rattle.record_defaults.specs.Tables.{Livestock, State, stateCount, columns, massOf, b0Of, solidsEntry, byState, asksState, solidsOf};
-ghost use Rattle.record_defaults.specs.StandsFor.{Named, lineOf};
+ghost use Rattle.record_defaults.specs.StandsFor.{Named, standsFor};
 
 // What Table A.3 has of a livestock's solids: a value of its own, in hundredths of a kilogram a day for 1,000 kg of animal, or a column of Table A.5.
-pub enum Solids {
+pub enum SolidsEntry {
     Own(u16),
     Column(usize),
 }
 
 // How many livestock Table A.2 has, and how many states Table A.5.
-pub const LIVESTOCK: usize = 10;
+pub const LIVESTOCK_COUNT: usize = 10;
 
-pub const STATES: usize = 50;
+pub const STATE_COUNT: usize = 50;
 
 // Where the fields of a defaults line stand.
 pub const LINE_AT: usize = 2;
@@ -37,7 +37,7 @@ pub const CONVERSION_FACTOR_AT: usize = 10;
 // The LN that a defaults line stands for: what it says itself, and the tables' values for its livestock.
 pub fn line(posted: &[u8]) -> [u8; record_table::RECORD]
     requires { ⌜ (length (now posted) ≡ recordBytes) × Named (now posted) ⌝ }
-    ensures { λ r. ⌜ r ≡ lineOf (now (posted .entry)) ⌝ }
+    ensures { λ r. ⌜ r ≡ standsFor (now (posted .entry)) ⌝ }
 {
     let livestock = posted[LIVESTOCK_AT];
     let solids = table_solids(livestock, posted[STATE_AT]);
@@ -96,8 +96,8 @@ pub fn asks_state(livestock: u8) -> bool
     ensures { λ r. ⌜ r ≡ asksState livestock ⌝ }
 {
     match solids_entry(livestock) {
-        Solids::Own(_) => false,
-        Solids::Column(_) => true,
+        SolidsEntry::Own(_) => false,
+        SolidsEntry::Column(_) => true,
     }
 }
 
@@ -107,13 +107,13 @@ pub fn table_solids(livestock: u8, state: u8) -> u16
     ensures { λ r. ⌜ r ≡ solidsOf livestock state ⌝ }
 {
     match solids_entry(livestock) {
-        Solids::Own(own) => own,
-        Solids::Column(column) => by_state(state, column),
+        SolidsEntry::Own(own) => own,
+        SolidsEntry::Column(column) => by_state(state, column),
     }
 }
 
 // The only functions that name these tables: a constant array is built in the frame of each function that names it.
-fn solids_entry(livestock: u8) -> Solids
+fn solids_entry(livestock: u8) -> SolidsEntry
     requires { ⌜ Livestock livestock ⌝ }
     ensures { λ r. ⌜ r ≡ solidsEntry livestock ⌝ }
 {

@@ -1,8 +1,8 @@
 // The protocol's tables as the constants of the code, row by row in their order.
-use crate::Solids;
+use crate::SolidsEntry;
 
 // Table A.2: the typical average mass of each livestock, in tenths of a kilogram.
-pub const MASSES: [u16; crate::LIVESTOCK] = [
+pub const MASSES: [u16; crate::LIVESTOCK_COUNT] = [
     6040, // dairy cows (on feed)
     6840, // non-milking dairy cows (on feed)
     4760, // heifers (on feed)
@@ -16,21 +16,21 @@ pub const MASSES: [u16; crate::LIVESTOCK] = [
 ];
 
 // Table A.3: the solids of each livestock, in hundredths of a kilogram a day for 1,000 kg of animal, or its column of Table A.5.
-pub const SOLIDS: [Solids; crate::LIVESTOCK] = [
-    Solids::Column(DAIRY_COWS),
-    Solids::Own(556),
-    Solids::Column(HEIFERS),
-    Solids::Own(604),
-    Solids::Own(641),
-    Solids::Column(HEIFERS_GRAZING),
-    Solids::Column(COWS_GRAZING),
-    Solids::Own(889),
-    Solids::Own(536),
-    Solids::Own(271),
+pub const SOLIDS: [SolidsEntry; crate::LIVESTOCK_COUNT] = [
+    SolidsEntry::Column(DAIRY_COWS),
+    SolidsEntry::Own(556),
+    SolidsEntry::Column(HEIFERS),
+    SolidsEntry::Own(604),
+    SolidsEntry::Own(641),
+    SolidsEntry::Column(HEIFERS_GRAZING),
+    SolidsEntry::Column(COWS_GRAZING),
+    SolidsEntry::Own(889),
+    SolidsEntry::Own(536),
+    SolidsEntry::Own(271),
 ];
 
 // Table A.3: the B0 of each livestock, in hundredths.
-pub const B0S: [u8; crate::LIVESTOCK] = [24, 24, 17, 17, 17, 17, 17, 48, 48, 35];
+pub const B0S: [u8; crate::LIVESTOCK_COUNT] = [24, 24, 17, 17, 17, 17, 17, 48, 48, 35];
 
 // The columns of Table A.5, from 0.
 const DAIRY_COWS: usize = 0;
@@ -44,7 +44,7 @@ const COWS_GRAZING: usize = 3;
 const COLUMNS: usize = 4;
 
 // Table A.5: the solids of each state, column by column, in hundredths of a kilogram a day for 1,000 kg of animal.
-pub const STATES: [[u16; COLUMNS]; crate::STATES] = [
+pub const STATES: [[u16; COLUMNS]; crate::STATE_COUNT] = [
     [802, 742, 782, 702], // Alabama
     [818, 742, 1008, 902], // Alaska
     [1055, 742, 1041, 902], // Arizona

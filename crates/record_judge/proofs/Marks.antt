@@ -11,7 +11,7 @@ use Rattle.record_table.specs.Table.{table, ln, recordBytes, afterMark}
 use Rattle.refusals.specs.Refusal.{refusal, notSixteenBytes, unknownMark}
 use Rattle.number_bytes.specs.Number.{numberAt}
 use Rattle.record_judge.specs.Defaults.{defaultsLetters, isDefaults, defaultsEntries}
-use Rattle.record_judge.specs.Record.{rowIn, rowOf, judgedBy, judgedAs, judged}
+use Rattle.record_judge.specs.Record.{rowIn, rowOf, keyRow, entriesFor, judgedBy, judgedAs, judged}
 use Rattle.record_judge.specs.declared.Judged.{Judged}
 use Rattle.record_judge.specs.declared.Judged.the-variants.{Refused}
 
@@ -25,13 +25,17 @@ unfolding isDefaults
 lettered r its b e = sym (ap (λ (w : ℕ). eqb w defaultsLetters) its) ∙ e
 
 -- by the number of a row, or of none
-abbrev byRow : ℕ → List ℕ → Judged
+abbrev pub byRow : ℕ → List ℕ → Judged
 byRow n r = cond (ltb n (length table)) (judgedAs n r) (Refused (refusal unknownMark 0))
 
 module _ (r : List ℕ) (long : length r ≡ recordBytes) where
-  whole : (b : Bool) → isDefaults r ≡ b → judged r ≡ cond b (judgedBy (defaultsEntries r) ln r) (byRow (rowOf r) r)
-  unfolding judged
-  whole b e = simp (eq-eqb _ _ long, e)
+  pub as-defaults : isDefaults r ≡ true → judged r ≡ judgedBy (defaultsEntries r) ln r
+  unfolding judged keyRow entriesFor
+  as-defaults d = simp (eq-eqb _ _ long, d)
+
+  pub as-row : isDefaults r ≡ false → judged r ≡ byRow (rowOf r) r
+  unfolding judged judgedAs keyRow entriesFor
+  as-row d = simp (eq-eqb _ _ long, d)
 
   module _ (letters : ℕ) (its : letters ≡ numberAt r 0 afterMark) where
     row : rowOf r ≡ rowIn letters table
@@ -39,7 +43,7 @@ module _ (r : List ℕ) (long : length r ≡ recordBytes) where
     row = sym (ap (λ (w : ℕ). rowIn w table) its)
 
     in-row : eqb letters defaultsLetters ≡ false → judged r ≡ byRow (rowIn letters table) r
-    in-row e = whole false (lettered r its false e) ∙ ap (λ (n : ℕ). byRow n r) row
+    in-row e = as-row (lettered r its false e) ∙ ap (λ (n : ℕ). byRow n r) row
 
     found : eqb letters defaultsLetters ≡ false → rowIn letters table < length table → judged r ≡ judgedAs (rowIn letters table) r
     found e h = in-row e ∙ simp (lt-ltb _ _ h)
@@ -55,4 +59,4 @@ module _ (r : List ℕ) (long : length r ≡ recordBytes) where
 
   -- and by the letters of LD
   pub by-defaults : {letters : ℕ} {found-is : Judged} → letters ≡ defaultsLetters → letters ≡ numberAt r 0 afterMark → found-is ≡ judgedBy (defaultsEntries r) ln r → found-is ≡ judged r
-  by-defaults is its e = e ∙ sym (whole true (lettered r its true (eq-eqb _ _ is)))
+  by-defaults is its e = e ∙ sym (as-defaults (lettered r its true (eq-eqb _ _ is)))

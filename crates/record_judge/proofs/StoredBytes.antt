@@ -6,7 +6,7 @@ use mathlib.Core.List.{List}
 use Prim.Native.Nat.{ℕ}
 use lib.ListN.{length}
 use Rattle.record_table.specs.Table.{recordBytes}
-use Rattle.record_defaults.specs.StandsFor.{Named, lineOf}
+use Rattle.record_defaults.specs.StandsFor.{Named, standsFor}
 use Rattle.record_judge.specs.Defaults.{isDefaults}
 use Rattle.record_judge.specs.Record.{judged, storedOf}
 use Rattle.record_judge.specs.declared.Judged.the-variants.{Put}
@@ -14,7 +14,7 @@ use Rattle.record_judge.proofs.Defaults.{line-own, line-judged, named}
 use Rattle.record_judge.proofs.Taken.{Taken, defaults-put, row-put}
 
 -- a defaults line stores its LN, and any other record itself
-pub stored-line : (r : List ℕ) → isDefaults r ≡ true → storedOf r ≡ lineOf r
+pub stored-line : (r : List ℕ) → isDefaults r ≡ true → storedOf r ≡ standsFor r
 unfolding storedOf
 stored-line r d = simp d
 

@@ -5,7 +5,7 @@ use mathlib.Core.Path.{_≡_, refl, sym, subst}
 use mathlib.Core.Bool.{Bool, true, false}
 use mathlib.Core.List.{List, List·Memᴰ, List·Memᴰ·head, List·Memᴰ·tail}
 use Prim.Native.Nat.{ℕ, _≤_, _<_}
-use borrow.Author.Tests.{ltb-true, ltb-false, eqb-true}
+use borrow.Author.Tests.{ltb-true, ltb-false, eqb-true, eqb-false}
 use lib.Dec.{eqb, ltb}
 use lib.ListN.{length}
 use Rattle.laws.proofs.Picking.{picked}
@@ -18,6 +18,7 @@ use Rattle.record_judge.specs.Record.{nowhere, outsideIn, rowOf, keyOf, 
 use Rattle.record_judge.specs.declared.Judged.{Judged}
 use Rattle.record_judge.specs.declared.Judged.the-variants.{Refused, Put, Empty}
 use Rattle.record_judge.proofs.Entries.{Ranged, defaults-ranged}
+use Rattle.record_judge.proofs.Marks.{short, as-defaults, as-row}
 
 -- a record of the table that is put into slot k
 pub record Taken (r : List ℕ) (k : ℕ) : Type 0 where
@@ -46,29 +47,35 @@ by-verdict r nonzero outside slot put =
     (λ field. List·Memᴰ·tail (List·Memᴰ·tail (List·Memᴰ·tail (List·Memᴰ·head refl))))
     (λ field. put (ltb-false _ _ field)))
 
-module _ (r : List ℕ) (long : eqb (length r) recordBytes ≡ true) where
-  as-defaults : isDefaults r ≡ true → nowhere ≤ outsideIn afterMark (defaultsEntries r) r → So r (Put (slotOf ln (keyOf ln r)))
+module _ (r : List ℕ) (long : length r ≡ recordBytes) where
+  put-defaults : isDefaults r ≡ true → nowhere ≤ outsideIn afterMark (defaultsEntries r) r → So r (Put (slotOf ln (keyOf ln r)))
   unfolding So PutBy
-  as-defaults its inside = (eqb-true _ _ long, subst (λ (b : Bool). PutBy b r (slotOf ln (keyOf ln r))) (sym its) (defaults-ranged r inside, refl))
+  put-defaults its inside = (long, subst (λ (b : Bool). PutBy b r (slotOf ln (keyOf ln r))) (sym its) (defaults-ranged r inside, refl))
 
-  as-row : isDefaults r ≡ false → ltb (rowOf r) (length table) ≡ true → nowhere ≤ outsideIn afterMark (entriesOf (rowOf r)) r → So r (Put (slotOf (rowOf r) (keyOf (rowOf r) r)))
+  put-row : isDefaults r ≡ false → ltb (rowOf r) (length table) ≡ true → nowhere ≤ outsideIn afterMark (entriesOf (rowOf r)) r → So r (Put (slotOf (rowOf r) (keyOf (rowOf r) r)))
   unfolding So PutBy
-  as-row other row inside =
-      let t : Taken r (slotOf (rowOf r) (keyOf (rowOf r) r)) = record { long = eqb-true _ _ long; row = ltb-true _ _ row; ranged = inside; slot = refl } in
-      (eqb-true _ _ long, subst (λ (b : Bool). PutBy b r (slotOf (rowOf r) (keyOf (rowOf r) r))) (sym other) t)
+  put-row other row inside =
+      let t : Taken r (slotOf (rowOf r) (keyOf (rowOf r) r)) = record { long = long; row = ltb-true _ _ row; ranged = inside; slot = refl } in
+      (long, subst (λ (b : Bool). PutBy b r (slotOf (rowOf r) (keyOf (rowOf r) r))) (sym other) t)
+
+  by-row : isDefaults r ≡ false → ltb (rowOf r) (length table) ≡ true → So r (judgedAs (rowOf r) r)
+  unfolding judgedAs
+  by-row other row = by-verdict r _ _ _ (put-row other row)
+
+  by-letters : (b : Bool) → isDefaults r ≡ b → So r (judged r)
+  unfolding So
+  by-letters true its = subst (So r) (sym (as-defaults r long its)) (by-verdict r _ _ _ (put-defaults its))
+  by-letters false other =
+      subst (So r) (sym (as-row r long other))
+      (picked (So r) (ltb (rowOf r) (length table)) (by-row other) (λ none. List·Memᴰ·tail (List·Memᴰ·head refl)))
+
+by-length : (r : List ℕ) (b : Bool) → eqb (length r) recordBytes ≡ b → So r (judged r)
+unfolding So
+by-length r true e = by-letters r (eqb-true _ _ e) (isDefaults r) refl
+by-length r false e = subst (So r) (sym (short r (eqb-false _ _ e))) (List·Memᴰ·head refl)
 
 so : (r : List ℕ) → So r (judged r)
-unfolding judged judgedAs
-so r =
-    picked (So r) (eqb (length r) recordBytes)
-    (λ long.
-    picked (So r) (isDefaults r)
-    (λ its. by-verdict r _ _ _ (as-defaults r long its))
-    (λ other.
-    picked (So r) (ltb (rowOf r) (length table))
-    (λ row. by-verdict r _ _ _ (as-row r long other row))
-    (λ row. unfold So in List·Memᴰ·tail (List·Memᴰ·head refl))))
-    (λ long. unfold So in List·Memᴰ·head refl)
+so r = by-length r (eqb (length r) recordBytes) refl
 
 pub never-empties : (r : List ℕ) (k : ℕ) → judged r ≡ Empty k → ⊥
 unfolding So

@@ -8,7 +8,7 @@ use Rattle.number_bytes.specs.Number.{numberAt}
 use Rattle.record_table.specs.Slot.{slotOf}
 use Rattle.refusals.specs.Refusal.{refusal, notSixteenBytes, unknownMark, notZero, outOfRange}
 use Rattle.record_fields.specs.Entry.{outsideAt, nonzeroAt}
-use Rattle.record_defaults.specs.StandsFor.{lineOf}
+use Rattle.record_defaults.specs.StandsFor.{standsFor}
 use Rattle.record_judge.specs.Defaults.{isDefaults, defaultsEntries}
 use Rattle.record_judge.specs.declared.Judged.{Judged, the-variants.Refused, the-variants.Put}
 
@@ -44,9 +44,12 @@ rowOf r = rowIn (numberAt r 0 afterMark) table
 unfoldable pub keyOf : ℕ → List ℕ → List ℕ
 keyOf row r = keyIn afterMark (highestOf row) r
 
--- the row whose key a record has: its own; a defaults line has LN's
+-- the row whose key a record has, and what stands after its mark: its own row's; a defaults line has LN's key, and its own entries
 unfoldable pub keyRow : List ℕ → ℕ
 keyRow r = cond (isDefaults r) ln (rowOf r)
+
+unfoldable pub entriesFor : List ℕ → List Entry
+entriesFor r = cond (isDefaults r) (defaultsEntries r) (entriesOf (rowOf r))
 
 -- a zero byte that is not 0 is refused at its offset; else a field outside its range is, at its offset; else the record is put into its slot
 unfoldable pub verdict : ℕ → ℕ → ℕ → Judged
@@ -54,21 +57,20 @@ verdict nonzero outside slot =
     cond (ltb nonzero nowhere) (Refused (refusal notZero nonzero))
     (cond (ltb outside nowhere) (Refused (refusal outOfRange outside)) (Put slot))
 
--- a record judged by its entries, for the slots of a row; and by a row
+-- a record judged by its entries, for the slots of a row; and by a row of the table
 abbrev pub judgedBy : List Entry → ℕ → List ℕ → Judged
 judgedBy entries row r = verdict (nonzeroIn afterMark entries r) (outsideIn afterMark entries r) (slotOf row (keyOf row r))
 
 unfoldable pub judgedAs : ℕ → List ℕ → Judged
 judgedAs row r = judgedBy (entriesOf row) row r
 
--- any bytes judged: other than sixteen of them are refused, and so are letters that no record has, both at place 0. A defaults line has LN's key.
+-- any bytes judged: other than sixteen of them are refused, and so are letters that are no mark, both at place 0
 unfoldable pub judged : List ℕ → Judged
 judged r =
     cond (eqb (length r) recordBytes)
-    (cond (isDefaults r) (judgedBy (defaultsEntries r) ln r)
-    (cond (ltb (rowOf r) (length table)) (judgedAs (rowOf r) r) (Refused (refusal unknownMark 0))))
+    (cond (ltb (keyRow r) (length table)) (judgedBy (entriesFor r) (keyRow r) r) (Refused (refusal unknownMark 0)))
     (Refused (refusal notSixteenBytes 0))
 
 -- the sixteen bytes that a record puts into its slot: the record as it came; of a defaults line, the LN that it stands for
 unfoldable pub storedOf : List ℕ → List ℕ
-storedOf r = cond (isDefaults r) (lineOf r) r
+storedOf r = cond (isDefaults r) (standsFor r) r

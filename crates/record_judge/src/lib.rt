@@ -192,7 +192,7 @@ fn livestock_outside(posted: &[u8], later: usize) -> usize
 fn is_livestock(livestock: u8) -> bool
     ensures { λ r. ⌜ r ≡ (leb 1 livestock && leb livestock livestockCount) ⌝ }
 {
-    1 <= livestock && livestock <= record_defaults::LIVESTOCK as u8
+    1 <= livestock && livestock <= record_defaults::LIVESTOCK_COUNT as u8
 }
 
 fn state_field(livestock: u8) -> Field

@@ -100,7 +100,7 @@ pub const LD_STATE: Field = Field(
     record_defaults::STATE_AT,
     1,
     1,
-    record_defaults::STATES as u64,
+    record_defaults::STATE_COUNT as u64,
 );
 
 pub const LD_NO_STATE: Field = Field(record_defaults::STATE_AT, 1, 0, 0);

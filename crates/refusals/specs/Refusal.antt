@@ -12,7 +12,7 @@ refusal number place = record { number = number; place = place }
 abbrev pub notSixteenBytes : ℕ
 notSixteenBytes = 1
 
--- a mark that is not in the table
+-- letters that are no mark
 abbrev pub unknownMark : ℕ
 unknownMark = 2
 

@@ -10,7 +10,7 @@ pub struct Refusal {
 // A posted record is not sixteen bytes.
 pub const NOT_SIXTEEN_BYTES: u8 = 1;
 
-// A mark that is not in the table.
+// Letters that are no mark.
 pub const UNKNOWN_MARK: u8 = 2;
 
 // A zero byte that is not 0.

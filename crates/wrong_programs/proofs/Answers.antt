@@ -12,7 +12,7 @@ use Rattle.number_bytes.specs.Number.{numberAt}
 use Rattle.record_table.specs.Slot.{count, index, total, slotOf}
 use Rattle.record_fields.specs.Entry.{inRange, outsideAt, nonzeroAt}
 use Rattle.record_judge.specs.Defaults.{isDefaults}
-use Rattle.record_judge.specs.Record.{nonzeroIn, outsideIn, keyIn, rowIn, rowOf, keyOf, verdict, judgedAs, judged}
+use Rattle.record_judge.specs.Record.{nonzeroIn, outsideIn, keyIn, rowIn, rowOf, keyOf, verdict, keyRow, entriesFor, judged}
 use Rattle.record_judge.specs.declared.Judged.the-variants.{Put}
 use Rattle.record_judge.proofs.Keys.{put-below}
 use Rattle.book.specs.Book as Book
@@ -33,7 +33,7 @@ use Rattle.wrong_programs.proofs.Promise.{Answered}
 use Rattle.wrong_programs.proofs.Records.{yearRecord}
 
 year-judged : judged yearRecord ≡ Put 0
-unfolding judged judgedAs isDefaults verdict rowOf rowIn keyOf keyIn nonzeroIn nonzeroAt outsideIn outsideAt inRange numberAt slotOf total index count
+unfolding judged keyRow entriesFor isDefaults verdict rowOf rowIn keyOf keyIn nonzeroIn nonzeroAt outsideIn outsideAt inRange numberAt slotOf total index count
 year-judged = refl
 
 pub year-taken : Book.answerOf emptyBook yearRecord ≡ Taken

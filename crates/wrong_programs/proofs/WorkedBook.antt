@@ -14,7 +14,7 @@ use Rattle.number_bytes.specs.Number.{numberAt, signedOf}
 use Rattle.record_table.specs.Slot.{count, index, total, slots, slotOf}
 use Rattle.record_fields.specs.Entry.{inRange, outsideAt, nonzeroAt}
 use Rattle.record_judge.specs.Defaults.{isDefaults}
-use Rattle.record_judge.specs.Record.{nonzeroIn, outsideIn, keyIn, rowIn, rowOf, keyOf, verdict, judgedAs, judged, storedOf}
+use Rattle.record_judge.specs.Record.{nonzeroIn, outsideIn, keyIn, rowIn, rowOf, keyOf, keyRow, entriesFor, verdict, judged, storedOf}
 use Rattle.book.specs.Book.{recordAt, nothing, emptyBook}
 use Rattle.book.specs.Valid.{Valid}
 use Rattle.book.proofs.Kept.{empty-slot, empty-valid}
@@ -85,7 +85,7 @@ module _ (destroyed : Bool) where
       (stands (slot (suc (i - 1))) (λ b. r b (suc (i - 1))) (at (λ j. both (holds (slot (suc j)) (λ b. r b (suc j)))) n t (i - 1) (omega arith)))
 
   pub made-stands : Stands (made destroyed) destroyed
-  unfolding made holds both alike each heldAfter heldBy judged judgedAs storedOf isDefaults verdict rowOf rowIn keyOf keyIn nonzeroIn nonzeroAt outsideIn outsideAt inRange signedOf numberAt slotOf total index count slots
+  unfolding made holds both alike each heldAfter heldBy judged keyRow entriesFor storedOf isDefaults verdict rowOf rowIn keyOf keyIn nonzeroIn nonzeroAt outsideIn outsideAt inRange signedOf numberAt slotOf total index count slots
   made-stands =
       record {
         valid = kept-each emptyBook (records destroyed) empty-valid;

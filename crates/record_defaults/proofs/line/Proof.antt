@@ -1,11 +1,11 @@
 -- `record_defaults::line` meets its contract: its sixteen bytes are those of the definition, one by one. Assumes nothing.
 use borrow.Author.Needs.{needs}
-use Rattle.record_defaults.specs.StandsFor.{lineOf}
+use Rattle.record_defaults.specs.StandsFor.{standsFor}
 use Rattle.record_defaults.proofs.line.Statement.{statement}
 use Rattle.record_defaults.proofs.line.Tie as tie
 
 returns : tie.Need-returns
-unfolding lineOf
+unfolding standsFor
 returns c =
     let solids-low = c .before .before .before .before .before .before .before .before in
     let mass = solids-low .before .before .before .before in
