@@ -8,7 +8,7 @@
  * `place` then says:
  *
  *    1  a posted record is not 16 bytes                         0
- *    2  its mark is none that there is                          0
+ *    2  its first two bytes are no mark                         0
  *    3  a zero byte is not 0                                    its offset in the record
  *    4  a field is outside its range                            its offset in the record
  *       or, of a month, the efficiency is above 10,000          0

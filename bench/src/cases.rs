@@ -21,7 +21,8 @@ use crate::streams;
 
 pub const SEED: u64 = 2_011;
 
-/// What the papers themselves say of an output.
+/// What is known of an output beforehand: by the papers, or worked out by hand
+/// from their rules.
 #[derive(Clone)]
 pub enum Claim {
     /// It is this text, whole.

@@ -1,4 +1,4 @@
-//! What the proved programs print for an input, and what the papers claim of it.
+//! What the proved programs print for an input, and what is known of it beforehand.
 
 use std::io::{ErrorKind, Write};
 use std::path::PathBuf;
@@ -60,9 +60,9 @@ impl Claim {
 
     pub fn told(&self) -> String {
         match self {
-            Claim::Prints(text) => format!("not {text:?}, which the papers have"),
+            Claim::Prints(text) => format!("not {text:?}, as is known of it"),
             Claim::Figure(name, low, high) => {
-                format!("{name} not from {low} to {high}, as the papers have it")
+                format!("{name} not from {low} to {high}, as is known of it")
             }
         }
     }

@@ -1,5 +1,5 @@
-//! Words that may stand for the numbers of a field (paper 02, (i)): the rows of
-//! the protocol's Tables A.2 and A.5, which count from 1.
+//! Words that may stand for the numbers of a field: the rows of the protocol's
+//! Tables A.2 and A.5, which LD names (paper 02, (i)), from 1; no state is 0.
 
 /// The names of numbers one after the other.
 pub struct Names {

@@ -1,5 +1,5 @@
 //! Holds the proved programs `years` and `month` to the second program, byte
-//! for byte, and to the papers' figures. A case that differs is written out as
+//! for byte, and to what is known beforehand. A case that differs is written out as
 //! an input of the programs, under target/differs.
 //!
 //!     programs FARM CORPUS [WORD ..]
@@ -110,7 +110,7 @@ fn outputs(proved: &Proved, cases: &[&Case]) -> Result<Vec<Vec<u8>>, String> {
     Ok(all.into_iter().map(|(_, output)| output).collect())
 }
 
-/// The cases on which the two sides differ, or one of them from the papers:
+/// The cases on which the two sides differ, or one of them from what is known:
 /// each is kept, and what is wrong with it told.
 fn differing(cases: &[&Case], outputs: &[Vec<u8>]) -> Result<Vec<String>, String> {
     let mut faults = Vec::new();

@@ -1,5 +1,5 @@
 //! Each record at every edge: a field just inside and just outside its range,
-//! a zero byte that is not 0, a mark that is not in the table, another length.
+//! a zero byte that is not 0, letters that are no mark, another length.
 //! The record stands in the farm's year, so that what is taken shows in figures.
 
 use super::{Group, Program};

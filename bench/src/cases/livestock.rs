@@ -83,7 +83,7 @@ fn beside_the_rows(group: &mut Group) {
 }
 
 fn refused(group: &mut Group, livestock: i64, state: i64, text: &str) {
-    let name = format!("livestock {livestock}, state {state}, which no row has");
+    let name = format!("livestock {livestock}, state {state}, refused");
     group.book(name, &book_of(livestock, state)).prints(text);
 }
 
