@@ -1,13 +1,14 @@
--- The lagoon month (01, "The lagoon month"; Equation 5.3): whole grams of volatile solids, rounded down at each stated division.
+-- The lagoon month (01, "The lagoon month"; 02, (ii); Equation 5.3): whole grams of volatile solids, rounded down at each stated division.
 use Prim.Native.Nat.{ℕ, _+_, _*_, _-_, _/_}
 use mathlib.Core.Bool.{cond}
 use Rattle.units.specs.{declared.solids.Solids.Solids, Grams.solids, Grams.shareOf}
 use Rattle.lagoon_factor.specs.Rule.{million}
 use Rattle.lagoon_month.specs.declared.{Month.Month, Outcome.Outcome, Standing.Standing}
 
--- entered: 8 tenths are the protocol's calibration; the rest of the divisor brings the fields' units to grams
+-- entered, by the sum of the year's twelve heads, which is twelve times their average; 8 tenths are the protocol's calibration; the rest of the divisor
+-- brings the fields' units to grams
 unfoldable pub enteredOf : ℕ → ℕ → ℕ → ℕ → ℕ → Solids
-enteredOf head tableSolids mass share days = solids (head * tableSolids * mass * share * days * 8 / 100000000)
+enteredOf heads tableSolids mass share days = solids (heads * tableSolids * mass * share * days * 8 / (12 * 100000000))
 
 -- the first month starts from 0
 abbrev pub emptyOf : Standing

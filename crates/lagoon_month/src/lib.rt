@@ -3,22 +3,28 @@ ghost use mathlib.Core.Path.{_≡_};
 ghost use Prim.Native.Nat.{_≤_, _<_};
 ghost use Rattle.lagoon_factor.specs.Rule.{million};
 ghost use Rattle.lagoon_month.specs.Month.{enteredOf, emptyOf, availableOf, outcomeOf};
-ghost use Rattle.lagoon_month.specs.Asks.{gramsMost};
+ghost use Rattle.lagoon_month.specs.Asks.{headsMost, gramsMost};
 use units::Solids;
 
 // The protocol's calibration, 0.8, in tenths.
 const CALIBRATION: u64 = 8;
 
-// Table solids count hundredths of a kilogram a day for a thousand kilograms, the mass tenths of a
-// kilogram, the share ten-thousandths and the calibration tenths; and a kilogram has a thousand grams.
-const ENTERED_PARTS: u64 = 100_000_000;
+// The sum of the year's twelve heads is twelve times their average. Table solids count hundredths of a
+// kilogram a day for a thousand kilograms, the mass tenths of a kilogram, the share ten-thousandths and the
+// calibration tenths; and a kilogram has a thousand grams.
+const ENTERED_PARTS: u64 = 12 * 100_000_000;
 
-// What a month's herd enters. It asks the upper ends of 01's ranges, and a month's days.
-pub fn entered(head: u64, table_solids: u64, mass: u64, share: u64, days: u64) -> Solids
-    requires { ⌜ (head ≤ 100000) × («table_solids» ≤ 2000) × (mass ≤ 20000) × (share ≤ 10000) × (days ≤ 31) ⌝ }
-    ensures { λ r. ⌜ r ≡ enteredOf head «table_solids» mass share days ⌝ }
+// The calibration divides the parts, and is taken out of both: times 8 the product would pass 64 bits.
+const CALIBRATED_PARTS: u64 = ENTERED_PARTS / CALIBRATION;
+
+// What a herd enters in a month, by the sum of the year's twelve heads. It asks the upper ends of 01's
+// ranges, and a month's days.
+pub fn entered(heads: u64, table_solids: u64, mass: u64, share: u64, days: u64) -> Solids
+    requires { ⌜ (heads ≤ headsMost) × («table_solids» ≤ 2000) × (mass ≤ 20000) × (share ≤ 10000) ⌝ }
+    requires { ⌜ days ≤ 31 ⌝ }
+    ensures { λ r. ⌜ r ≡ enteredOf heads «table_solids» mass share days ⌝ }
 {
-    Solids::of_grams(head * table_solids * mass * share * days * CALIBRATION / ENTERED_PARTS)
+    Solids::of_grams(heads * table_solids * mass * share * days / CALIBRATED_PARTS)
 }
 
 // A month's figures: what entered, the temperature factor, and whether the line was drained.

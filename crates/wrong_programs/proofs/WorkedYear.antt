@@ -27,11 +27,12 @@ use Rattle.book_herd.specs.Herd.{lineOf, drainedOf}
 use Rattle.book_herd.specs.declared.Line.{Line}
 use Rattle.book_slots.specs.declared.Seen.{Seen}
 use Rattle.book_slots.specs.declared.Warmth.{Warmth}
-use Rattle.year_months.specs.Series.{firstYear, amountOf, monthsBefore, daysAt, factorBy, factorAt}
-use Rattle.year_credit.specs.Credit.{gramsOf, destroyedAt, overYear, operatorOf, totalOf}
+use Rattle.year_months.specs.Series.{firstYear, amountOf, monthsBefore, yearAt, overYear, daysAt, factorBy, factorAt}
+use Rattle.year_credit.specs.Credit.{gramsOf, destroyedAt, operatorOf, totalOf}
 use Rattle.year_credit.specs.declared.Operator.{Operator}
 use Rattle.year.specs.Figures.{figuresBy, figuresOf}
-use Rattle.year_lines.specs.Lines.{otherOf, bySystem, headsOf, lineIn, sumsOver, all, sumsOf, headAt, enteredAt, monthAt}
+use Rattle.year_heads.specs.Heads.{headAt, headsOf}
+use Rattle.year_lines.specs.Lines.{otherOf, bySystem, lineIn, sumsOver, all, sumsOf, enteredBy, enteredAt, monthAt}
 use Rattle.year.specs.declared.Figures.{Figures}
 use Rattle.year_sums.specs.declared.Sums.{Sums}
 use Rattle.year_sums.specs.Sums.{anaerobicOf, nothing}
@@ -43,20 +44,20 @@ use Rattle.wrong_programs.proofs.Records.{lineRecord}
 use Rattle.wrong_programs.proofs.WorkedBook.{made, Stands, made-stands}
 use Rattle.wrong_programs.proofs.WorkedReads.{theLine, year-is, month-is, system-by, line-is, head-is, temperature-is, drained-is, project-is, first-is, none-is, complete-is, shares-are}
 
+-- the same every month of a year
+abbrev monthly : ℕ → ℕ
+monthly figure = sum monthsInYear (λ m. figure)
+
 -- a month of the line, what the operator entered for a month, and the year's sums
 abbrev month : Solids → ℕ → Bool → Month
 month entered factor drained = record { entered = entered; factor = factor; drained = drained }
 
 abbrev theMonth : ℕ → Month
-theMonth m = month (enteredOf 100 1000 6000 10000 (daysOf 2011 1 m)) (factorOf (pos 302)) false
+theMonth m = month (enteredBy (monthly 100) theLine (daysOf 2011 1 m)) (factorOf (pos 302)) false
 
 abbrev operator : ℕ → ℕ → ℕ → ℕ → Operator
 operator project-methane baseline-co2 project-co2 destroyed =
     record { «project_methane» = co2e project-methane; «baseline_co2» = co2e baseline-co2; «project_co2» = co2e project-co2; destroyed = methane destroyed }
-
--- the same every month
-abbrev monthly : ℕ → ℕ
-monthly grams = sum monthsInYear (λ m. grams)
 
 abbrev theOperator : Bool → Operator
 theOperator destroyed = operator (monthly 1000000) (monthly 0) (monthly 500000) (monthly (Records.gramsOf destroyed))
@@ -65,7 +66,7 @@ abbrev theSums : Sums
 theSums = record { entered = solids 175200000; degraded = solids 175200000; removed = solids 0; carried = solids 0; baseline = co2e 600445440 }
 
 line-sums : anaerobicOf (yearOf theMonth firstYear) (theLine .b0) ≡ theSums
-unfolding yearOf runFrom withOf outcomeOf enteredOf daysOf goneOf lengthOf lengthsOf februaryOf leapOf factorOf b0RuleOf
+unfolding sum yearOf runFrom withOf outcomeOf enteredOf daysOf goneOf lengthOf lengthsOf februaryOf leapOf factorOf b0RuleOf
 line-sums = refl
 
 year-sums : sumsOver (λ l. cond (eqb l 1) theSums nothing) all lines ≡ theSums
@@ -78,9 +79,9 @@ unfolding sumsOver
 same-sums one other zero same = refl
 same-sums one other (suc n) same = rw (same (suc n) (omega arith) (omega arith), same-sums one other n (λ l low high. same l low (omega arith)))
 
-over-year : (each : ℕ → ℕ) (grams : ℕ) → Each monthsInYear (λ m. each m ≡ grams) → overYear firstYear each ≡ monthly grams
-over-year each grams is =
-    sum-same (λ m. each (monthsBefore firstYear + m)) (λ m. grams) monthsInYear
+over-year : (each : ℕ → ℕ) (figure : ℕ) → Each monthsInYear (λ m. each m ≡ figure) → overYear firstYear each ≡ monthly figure
+over-year each figure is =
+    sum-same (λ m. each (monthsBefore firstYear + m)) (λ m. figure) monthsInYear
     (λ m low high. let e : monthsBefore firstYear + m ≡ m = omega arith in ap each e ∙ is m low high)
 
 same-operator : {a b c d w x y z : ℕ} → a ≡ w → b ≡ x → c ≡ y → d ≡ z → operator a b c d ≡ operator w x y z
@@ -93,13 +94,19 @@ module _ (book : List ℕ) (destroyed : Bool) (s : Stands book destroyed) where
       ap (λ (y : Seen). daysOf (amountOf y) (amountOf (firstMonthOf book)) m) (year-is book destroyed s)
       ∙ ap (λ (y : Seen). daysOf 2011 (amountOf y) m) (month-is book destroyed s)
 
+  heads-are : headsOf book firstYear (theLine .category) ≡ monthly 100
+  unfolding headsOf headAt
+  heads-are = over-year (headAt book (theLine .category)) 100 (λ m low high. ap amountOf (head-is book destroyed s m low high))
+
   module _ (m : ℕ) (low : 1 ≤ m) (high : m ≤ monthsInYear) where
     entered-is : enteredAt book 1 m ≡ theMonth m .entered
-    unfolding enteredAt headAt
+    unfolding enteredAt
     entered-is =
-        ap (λ (x : Line). enteredOf (headAt book (x .category) m) (x .solids) (x .mass) (x .share) (daysAt book m)) (line-is book destroyed s)
-        ∙ ap (λ (h : Seen). enteredOf (amountOf h) 1000 6000 10000 (daysAt book m)) (head-is book destroyed s m low high)
-        ∙ ap (enteredOf 100 1000 6000 10000) (days-are m)
+        let year : yearAt m ≡ firstYear = omega arith in
+        ap (λ (x : Line). enteredBy (headsOf book (yearAt m) (x .category)) x (daysAt book m)) (line-is book destroyed s)
+        ∙ ap (λ (y : ℕ). enteredBy (headsOf book y (theLine .category)) theLine (daysAt book m)) year
+        ∙ ap (λ (n : ℕ). enteredBy n theLine (daysAt book m)) heads-are
+        ∙ ap (enteredBy (monthly 100) theLine) (days-are m)
 
     months-are : monthAt book 1 m ≡ theMonth m
     unfolding monthAt factorAt

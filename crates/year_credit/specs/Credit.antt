@@ -4,10 +4,9 @@ use mathlib.Core.{Bool.cond, List.List}
 use lib.{IntN.ℤ, IntN.pos, IntN._+ℤ_, IntN._-ℤ_, Signed.leZ}
 use Rattle.laws.specs.Counting.{sum}
 use Rattle.units.specs.{Grams.methane, Grams.co2e, Grams.potential, Grams.warmingOf, declared.co2e.Co2e.Co2e, declared.methane.Methane.Methane}
-use Rattle.calendar.specs.Days.{monthsInYear}
 use Rattle.record_table.specs.Table.{devices}
 use Rattle.book_slots.specs.{Reads.projectMethaneOf, Reads.baselineCo2Of, Reads.projectCo2Of, Reads.destroyedOf, declared.Seen.Seen}
-use Rattle.year_months.specs.Series.{amountOf, monthsBefore}
+use Rattle.year_months.specs.Series.{amountOf, overYear}
 use Rattle.year_credit.specs.declared.Operator.{Operator}
 
 -- PE's kilograms count 1,000 each
@@ -20,10 +19,6 @@ gramsOf kilograms = co2e (kilogram * amountOf kilograms)
 -- what all devices destroyed in month m; one without MT counts 0
 unfoldable pub destroyedAt : List ℕ → ℕ → Methane
 destroyedAt book m = methane (sum devices (λ device. amountOf (destroyedOf book m device)))
-
--- a figure over the twelve months of a year
-abbrev pub overYear : ℕ → (ℕ → ℕ) → ℕ
-overYear year each = sum monthsInYear (λ m. each (monthsBefore year + m))
 
 -- what the operator entered for the year: project methane, the baseline's and the project's carbon dioxide, and the destroyed methane
 abbrev pub operatorOf : List ℕ → ℕ → Operator

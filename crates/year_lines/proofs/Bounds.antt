@@ -8,36 +8,35 @@ use native.Mathlib.Nat.{mul-le-mul, suc-mul}
 use native.Mathlib.Omega.{arith}
 use lib.Dec.{eqb}
 use lib.ListN.{length, getD}
-use Rattle.laws.proofs.Counting.{sum-most}
 use Rattle.units.specs.Grams.{potential, b0RuleOf}
 use Rattle.units.specs.declared.solids.Solids.{Solids}
 use Rattle.calendar.specs.Days.{monthsInYear}
 use Rattle.lagoon_run.proofs.Conserved.{conserved, entered-at-most}
-use Rattle.lagoon_month.specs.Asks.{enteredMost}
+use Rattle.lagoon_month.specs.Asks.{headsMost, enteredMost}
+use Rattle.lagoon_month.proofs.Entry.{four}
 use Rattle.lagoon_run.specs.Asks.{RunFits}
 use Rattle.lagoon_factor.specs.Rule.{million}
 use Rattle.lagoon_month.specs.Month.{emptyOf}
 use Rattle.lagoon_run.specs.Run.{runFrom, runOf, after, yearOf, monthsOf}
 use Rattle.lagoon_month.specs.declared.Standing.{Standing}
 use Rattle.lagoon_run.specs.declared.Totals.{Totals}
-use Rattle.record_table.specs.Table.{lines, categories, months}
+use Rattle.record_table.specs.Table.{lines, months}
 use Rattle.book.specs.Valid.{Valid}
 use Rattle.book_herd.specs.Herd.{systemOf, lineOf, drainedOf}
 use Rattle.book_herd.specs.declared.Line.{Line}
 use Rattle.book_slots.specs.declared.Seen.{Seen}
 use Rattle.book_slots.specs.declared.Seen.the-variants.{Nothing, Value}
-use Rattle.year_months.specs.Asks.{InPeriod, Holds}
+use Rattle.year_months.specs.Asks.{InPeriod, HoldsYear}
 use Rattle.year_months.specs.Series.{monthsBefore, factorAt}
+use Rattle.year_heads.specs.Heads.{headsOf}
+use Rattle.year_heads.proofs.Ranges.{heads-most}
 use Rattle.year_sums.specs.Asks.{allGrams}
 use Rattle.year_sums.specs.Sums.{anaerobicOf}
-use Rattle.year_lines.specs.Lines.{anaerobic, headsOf, dailyOf, daysInYear, convertedOf, otherOf, bySystem, lineIn, sumsOver, all, headAt, enteredAt, monthAt}
+use Rattle.year_lines.specs.Lines.{anaerobic, dailyOf, daysInYear, convertedOf, otherOf, bySystem, lineIn, sumsOver, all, enteredAt, monthAt}
+use Rattle.year_lines.specs.Asks.{LineRanged}
 use Rattle.year_sums.specs.declared.Sums.{Sums}
 use Rattle.year_lines.proofs.SameMonths.{same-run, standing-most}
-use Rattle.year_lines.proofs.Ranges.{LineRanged, factor-most, line-ranged, head-most, entry-most}
-
--- the most that the twelve heads of a year can sum to
-abbrev pub headsMost : ℕ
-headsMost = monthsInYear * 100000
+use Rattle.year_lines.proofs.Ranges.{factor-most, line-ranged, entry-most}
 
 -- the most that any figure of one line in a year can be
 abbrev pub lineMost : ℕ
@@ -56,17 +55,11 @@ b0-most degraded b0 few small = omega (arith, mul-le-mul few small)
 
 -- another line's products, one factor after the other
 module _ (heads : ℕ) (line : Line) (few : heads ≤ headsMost) (r : LineRanged line) where
-  pub product-one : heads * line .solids ≤ 2400000000
-  product-one = mul-le-mul few (r .solids)
-
-  pub product-two : heads * line .solids * line .mass ≤ 48000000000000
-  product-two = mul-le-mul product-one (r .mass)
-
-  pub product-three : heads * line .solids * line .mass * line .share ≤ 480000000000000000
-  product-three = mul-le-mul product-two (r .share)
+  pub daily-product : heads * line .solids * line .mass * line .share ≤ 480000000000000000
+  daily-product = four (few, r .solids, r .mass, r .share)
 
   pub daily-most : dailyOf heads line * daysInYear ≤ 1460000000000
-  daily-most = omega (arith, product-three)
+  daily-most = omega (arith, daily-product)
 
   pub product-year : dailyOf heads line * daysInYear * line .conversion ≤ 14600000000000000
   product-year = mul-le-mul daily-most (r .conversion)
@@ -106,9 +99,9 @@ module _ (book : List ℕ) (v : Valid book) (line : ℕ) (there : line ≤ lines
 
   -- the arrays of a year that the code fills from the book
   module _ (year : ℕ) (period : InPeriod year) {entered factors : List ℕ} {drained : List Bool}
-      (entered-held : Holds ℕ 0 (monthsBefore year) monthsInYear (λ m. enteredAt book line m .0) entered)
-      (factors-held : Holds ℕ 0 (monthsBefore year) monthsInYear (factorAt book) factors)
-      (drained-held : Holds Bool false (monthsBefore year) monthsInYear (drainedOf book line) drained)
+      (entered-held : HoldsYear ℕ 0 year (λ m. enteredAt book line m .0) entered)
+      (factors-held : HoldsYear ℕ 0 year (factorAt book) factors)
+      (drained-held : HoldsYear Bool false year (drainedOf book line) drained)
       {from : Standing} (handed-on : from ≡ runOf (monthAt book line) (monthsBefore year) .standing) where
     entry-at : (i : ℕ) → i < monthsInYear → getD entered i 0 ≤ enteredMost
     entry-at i below =
@@ -161,12 +154,6 @@ by-most (Value system) lagoon other l o = go (eqb system anaerobic)
     go false = o
 
 module _ (book : List ℕ) (v : Valid book) (year : ℕ) (period : InPeriod year) where
-  pub heads-most : (category : ℕ) → category ≤ categories → headsOf book year category ≤ headsMost
-  unfolding headsOf
-  heads-most category there =
-      sum-most (λ m. headAt book category (monthsBefore year + m)) 100000 monthsInYear
-      (λ m low high. head-most book v category (monthsBefore year + m) there (omega (arith, period .high)))
-
   pub line-most : (line : ℕ) → line ≤ lines → Most lineMost (lineIn book year line)
   unfolding lineIn
   line-most line there =
@@ -174,7 +161,7 @@ module _ (book : List ℕ) (v : Valid book) (year : ℕ) (period : InPeriod year
       let y = year-most book v line there year period in
       let numbers = lineOf book line in
       let heads = headsOf book year (numbers .category) in
-      let c = converted-most heads numbers (heads-most (numbers .category) (r .category)) r in
+      let c = converted-most heads numbers (heads-most book v year period (numbers .category) (r .category)) r in
       by-most (systemOf book line) (anaerobicOf (yearOf (monthAt book line) year) (numbers .b0)) (otherOf heads numbers)
       (record {
         entered = omega (arith, y .entered);

@@ -13,7 +13,8 @@ use Rattle.book_herd.specs.Herd.{systemOf, lineOf}
 use Rattle.book_herd.specs.declared.Line.{Line}
 use Rattle.book_slots.specs.declared.Seen.{Seen}
 use Rattle.book_slots.specs.declared.Seen.the-variants.{Nothing, Value}
-use Rattle.year_lines.specs.Lines.{anaerobic, headsOf, otherOf, bySystem, lineIn, sumsOver, all, monthAt}
+use Rattle.year_lines.specs.Lines.{anaerobic, otherOf, bySystem, lineIn, sumsOver, all, monthAt}
+use Rattle.year_heads.specs.Heads.{headsOf}
 use Rattle.year_sums.specs.Sums.{anaerobicOf, nothing, plus}
 use Rattle.year_sums.specs.declared.Sums.{Sums}
 

@@ -12,7 +12,6 @@ use lib.ListN.{getD}
 use Rattle.laws.proofs.Counting.{Each, sum-same}
 use Rattle.units.specs.declared.solids.Solids.{Solids}
 use Rattle.calendar.specs.Days.{monthsInYear, daysOf}
-use Rattle.lagoon_month.specs.Month.{enteredOf}
 use Rattle.lagoon_run.specs.Run.{yearOf}
 use Rattle.lagoon_month.specs.declared.Month.{Month}
 use Rattle.lagoon_run.specs.declared.Totals.{Totals}
@@ -29,9 +28,11 @@ use Rattle.book_herd.specs.declared.Line.{Line}
 use Rattle.book_slots.specs.declared.Seen.{Seen}
 use Rattle.book_slots.specs.declared.Seen.the-variants.{Nothing, Value}
 use Rattle.book_slots.specs.declared.Warmth.the-variants.{Unknown, Tenths}
-use Rattle.year_months.specs.Series.{amountOf, monthsBefore, monthsThrough, daysAt, factorBy, factorAt}
+use Rattle.year_months.specs.Series.{amountOf, monthsBefore, monthsThrough, yearAt, daysAt, factorBy, factorAt}
+use Rattle.year_months.proofs.Years.{no-later}
+use Rattle.year_heads.specs.Heads.{headAt, headsOf}
 use Rattle.year_sums.specs.Sums.{anaerobicOf}
-use Rattle.year_lines.specs.Lines.{headsOf, otherOf, bySystem, lineIn, headAt, enteredAt, monthAt}
+use Rattle.year_lines.specs.Lines.{otherOf, bySystem, lineIn, enteredBy, enteredAt, monthAt}
 use Rattle.year_lines.proofs.SameMonths.{same-year}
 
 -- two books have the same record under a key of a row, or none
@@ -92,23 +93,25 @@ module _ (one other : List ℕ) (line year : ℕ) (same : SameLine one other lin
       ap (λ (s : Seen). daysOf (amountOf s) (amountOf (firstMonthOf one)) m) (same-seen one other yr [] (same .start) 0 (lit≤ tt)) ∙
       ap (λ (s : Seen). daysOf (amountOf (firstYearOf other)) (amountOf s) m) (same-seen one other yr [] (same .start) 1 (lit≤ tt))
 
-  module _ (m : ℕ) (low : 1 ≤ m) (high : m ≤ monthsThrough year) where
-    pub same-head : headAt one (lineOf one line .category) m ≡ headAt other (lineOf other line .category) m
-    unfolding headAt
-    same-head =
-        ap amountOf (same-seen one other hd (lineOf one line .category ∷ m ∷ []) (same .heads m low high) 2 (lit≤ tt)) ∙
-        ap (λ (x : Line). amountOf (headOf other (x .category) m)) same-line
+  pub same-head : (m : ℕ) → 1 ≤ m → m ≤ monthsThrough year → headAt one (lineOf one line .category) m ≡ headAt other (lineOf other line .category) m
+  unfolding headAt
+  same-head m low high =
+      ap amountOf (same-seen one other hd (lineOf one line .category ∷ m ∷ []) (same .heads m low high) 2 (lit≤ tt)) ∙
+      ap (λ (x : Line). amountOf (headOf other (x .category) m)) same-line
 
+  same-heads : (y : ℕ) → 1 ≤ y → y ≤ year → headsOf one y (lineOf one line .category) ≡ headsOf other y (lineOf other line .category)
+  unfolding headsOf
+  same-heads y some within =
+      sum-same (λ m. headAt one (lineOf one line .category) (monthsBefore y + m)) (λ m. headAt other (lineOf other line .category) (monthsBefore y + m))
+      monthsInYear (λ m low high. same-head (monthsBefore y + m) (omega arith) (omega arith))
+
+  module _ (m : ℕ) (low : 1 ≤ m) (high : m ≤ monthsThrough year) where
     same-entered : enteredAt one line m ≡ enteredAt other line m
     unfolding enteredAt
     same-entered =
-        ap (λ (n : ℕ). enteredOf n (lineOf one line .solids) (lineOf one line .mass) (lineOf one line .share) (daysAt one m)) same-head ∙
-        ap
-        (λ (x : Line). enteredOf (headAt other (lineOf other line .category) m) (x .solids) (x .mass) (x .share) (daysAt one m)) same-line ∙
-        ap
-        (λ (n : ℕ). enteredOf (headAt other (lineOf other line .category) m) (lineOf other line .solids) (lineOf other line .mass)
-        (lineOf other line .share) n)
-        (same-days m)
+        ap (λ (n : ℕ). enteredBy n (lineOf one line) (daysAt one m)) (same-heads (yearAt m) (omega arith) (no-later year m low high)) ∙
+        ap (λ (x : Line). enteredBy (headsOf other (yearAt m) (lineOf other line .category)) x (daysAt one m)) same-line ∙
+        ap (λ (n : ℕ). enteredBy (headsOf other (yearAt m) (lineOf other line .category)) (lineOf other line) n) (same-days m)
 
     same-factor : factorAt one m ≡ factorAt other m
     unfolding factorAt
@@ -129,12 +132,6 @@ module _ (one other : List ℕ) (line year : ℕ) (same : SameLine one other lin
   pub solids-depend : 1 ≤ year → yearOf (monthAt one line) year ≡ yearOf (monthAt other line) year
   solids-depend low = same-year (monthAt one line) (monthAt other line) year low same-month
 
-  same-heads : 1 ≤ year → headsOf one year (lineOf one line .category) ≡ headsOf other year (lineOf other line .category)
-  unfolding headsOf
-  same-heads low =
-      sum-same (λ m. headAt one (lineOf one line .category) (monthsBefore year + m)) (λ m. headAt other (lineOf other line .category) (monthsBefore year + m))
-      monthsInYear (λ m from to. same-head (monthsBefore year + m) (omega arith) (omega arith))
-
   -- and its part in the year's sums, whatever its system
   pub line-depends : 1 ≤ year → lineIn one year line ≡ lineIn other year line
   unfolding lineIn
@@ -149,7 +146,7 @@ module _ (one other : List ℕ) (line year : ℕ) (same : SameLine one other lin
       (solids-depend low) ∙
       ap
       (λ (n : ℕ). bySystem (systemOf other line) (anaerobicOf (yearOf (monthAt other line) year) (lineOf one line .b0)) (otherOf n (lineOf one line)))
-      (same-heads low) ∙
+      (same-heads year low (omega arith)) ∙
       ap
       (λ (x : Line). bySystem (systemOf other line) (anaerobicOf (yearOf (monthAt other line) year) (x .b0)) (otherOf (headsOf other year
       (lineOf other line .category)) x))

@@ -9,26 +9,18 @@ use Rattle.lagoon_factor.proofs.Right as factor
 use Rattle.lagoon_month.proofs.Entry.{entered-most}
 use Rattle.lagoon_month.specs.Asks.{enteredMost}
 use Rattle.lagoon_factor.specs.Rule.{million}
-use Rattle.record_table.specs.Table.{lines, categories, months}
+use Rattle.record_table.specs.Table.{lines, months}
 use Rattle.book.specs.Valid.{Valid}
-use Rattle.book_herd.proofs.Ranges.{head-in, numbers-in}
+use Rattle.book_herd.proofs.Ranges.{numbers-in}
 use Rattle.book_slots.specs.Reads.{firstYearOf, firstMonthOf, temperatureOf}
-use Rattle.book_herd.specs.Herd.{lineOf, headOf}
-use Rattle.book_herd.specs.declared.Line.{Line}
+use Rattle.book_herd.specs.Herd.{lineOf}
 use Rattle.book_slots.specs.declared.Warmth.{Warmth}
 use Rattle.book_slots.specs.declared.Warmth.the-variants.{Unknown, Tenths}
-use Rattle.year_months.specs.Series.{amountOf, daysAt, factorBy, factorAt}
-use Rattle.year_months.proofs.Ranges.{amount-most}
-use Rattle.year_lines.specs.Lines.{headAt, enteredAt}
-
--- the upper ends of LN's ranges, and of the category's
-pub record LineRanged (line : Line) : Type 0 where
-  pub category : line .category ≤ 16
-  pub solids : line .solids ≤ 2000
-  pub mass : line .mass ≤ 20000
-  pub share : line .share ≤ 10000
-  pub b0 : line .b0 ≤ 100
-  pub conversion : line .conversion ≤ 10000
+use Rattle.year_months.specs.Series.{amountOf, yearAt, daysAt, factorBy, factorAt}
+use Rattle.year_months.proofs.Years.{in-period}
+use Rattle.year_heads.proofs.Ranges.{heads-most}
+use Rattle.year_lines.specs.Lines.{enteredAt}
+use Rattle.year_lines.specs.Asks.{LineRanged}
 
 factor-by-most : (warmth : Warmth) → factorBy warmth ≤ million
 factor-by-most Unknown = omega arith
@@ -56,12 +48,9 @@ module _ (book : List ℕ) (v : Valid book) where
         conversion = numbers .conversion;
       }
 
-  pub head-most : (category m : ℕ) → category ≤ categories → m ≤ months → headAt book category m ≤ 100000
-  unfolding headAt
-  head-most category m h k = amount-most 0 100000 (headOf book category m) (head-in book v category m h k 2 (lit≤ tt) tt)
-
   pub entry-most : (line m : ℕ) → line ≤ lines → m ≤ months → enteredAt book line m .0 ≤ enteredMost
   unfolding enteredAt
   entry-most line m h k =
       let r = line-ranged line h in
-      entered-most (head-most (lineOf book line .category) m (r .category) k, r .solids, r .mass, r .share, days-most book m)
+      let few = heads-most book v (yearAt m) (in-period m k) (lineOf book line .category) (r .category) in
+      entered-most (few, r .solids, r .mass, r .share) (days-most book m)

@@ -1,28 +1,26 @@
--- A month of a line (01, "The lagoon month"), and the lines of a year: solids of the anaerobic ones, and the baseline of all (01, "The year"; Equations 5.3 and 5.4).
+-- A month of a line (01, "The lagoon month"; 02, (ii)), and the lines of a year: solids of the anaerobic ones, and the baseline of all (01, "The year"; Equations
+-- 5.3 and 5.4).
 use Prim.Native.Nat.{ℕ, zero, suc, _+_, _*_, _/_}
 use mathlib.Core.{Bool.Bool, Bool.true, Bool.cond, List.List}
 use lib.Dec.{eqb}
-use Rattle.laws.specs.Counting.{sum}
 use Rattle.units.specs.{Grams.solids, Grams.shareOf, Grams.potential, Grams.b0RuleOf, declared.solids.Solids.Solids}
-use Rattle.calendar.specs.Days.{monthsInYear}
 use Rattle.lagoon_month.specs.{Month.enteredOf, declared.Month.Month}
 use Rattle.lagoon_run.specs.Run.{yearOf}
 use Rattle.record_table.specs.Table.{lines}
-use Rattle.book_herd.specs.Herd.{systemOf, lineOf, headOf, drainedOf}
+use Rattle.book_herd.specs.Herd.{systemOf, lineOf, drainedOf}
 use Rattle.book_slots.specs.declared.Seen.{Seen, the-variants.Nothing, the-variants.Value}
 use Rattle.book_herd.specs.declared.Line.{Line}
-use Rattle.year_months.specs.Series.{amountOf, monthsBefore, daysAt, factorAt}
+use Rattle.year_months.specs.Series.{yearAt, daysAt, factorAt}
+use Rattle.year_heads.specs.Heads.{headsOf}
 use Rattle.year_sums.specs.{Sums.anaerobicOf, Sums.baselineAlone, Sums.nothing, Sums.plus, declared.Sums.Sums}
 
--- the head of a category in month m: the month's own count (house reading)
-unfoldable pub headAt : List ℕ → ℕ → ℕ → ℕ
-headAt book category m = amountOf (headOf book category m)
+-- what a line enters in so many days, by the sum of the year's twelve heads
+abbrev pub enteredBy : ℕ → Line → ℕ → Solids
+enteredBy heads line days = enteredOf heads (line .solids) (line .mass) (line .share) days
 
--- what a line enters in month m, by the month's head of the line's category
+-- what a line enters in month m: the heads are those of its category in the year that the month falls in
 unfoldable pub enteredAt : List ℕ → ℕ → ℕ → Solids
-enteredAt book line m =
-    let numbers = lineOf book line in
-    enteredOf (headAt book (numbers .category) m) (numbers .solids) (numbers .mass) (numbers .share) (daysAt book m)
+enteredAt book line m = enteredBy (headsOf book (yearAt m) (lineOf book line .category)) (lineOf book line) (daysAt book m)
 
 -- month m of a line
 unfoldable pub monthAt : List ℕ → ℕ → ℕ → Month
@@ -32,11 +30,7 @@ monthAt book line m = record { entered = enteredAt book line m; factor = factorA
 abbrev pub anaerobic : ℕ
 anaerobic = 0
 
--- the sum of the year's twelve heads of a category
-unfoldable pub headsOf : List ℕ → ℕ → ℕ → ℕ
-headsOf book year category = sum monthsInYear (λ m. headAt book category (monthsBefore year + m))
-
--- grams a day, by that sum, which is twelve times the average; the rest of the divisor brings the fields' units to grams
+-- grams a day, by the sum of the year's twelve heads, which is twelve times their average; the rest of the divisor brings the fields' units to grams
 abbrev pub dailyParts : ℕ
 dailyParts = 120000000
 

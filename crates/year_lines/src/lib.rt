@@ -2,16 +2,19 @@
 // for the others.
 ghost use mathlib.Core.Path.{_≡_};
 ghost use mathlib.Core.Bool.{Bool, false};
-ghost use Prim.Native.Nat.{ℕ, _+_, _-_, _≤_};
+ghost use Prim.Native.Nat.{ℕ, _-_, _≤_};
+ghost use lib.ListN.{getD};
 ghost use Rattle.calendar.specs.Days.{monthsInYear};
+ghost use Rattle.lagoon_month.specs.Asks.{headsMost};
 ghost use Rattle.lagoon_run.specs.Run.{runOf, yearOf};
-ghost use Rattle.record_table.specs.Table.{lines, categories, months};
+ghost use Rattle.record_table.specs.Table.{lines};
 ghost use Rattle.book.specs.Valid.{Valid};
-ghost use Rattle.book_herd.specs.Herd.{lineOf, drainedOf};
+ghost use Rattle.book_herd.specs.Herd.{drainedOf};
 ghost use Rattle.year_months.specs.Series.{monthsBefore, daysAt, factorAt};
-ghost use Rattle.year_months.specs.Asks.{InPeriod, Holds};
-ghost use Rattle.year_lines.specs.Lines.{headAt, enteredAt, monthAt, headsOf, otherOf, lineIn, all, sumsOf};
-ghost use Rattle.year_lines.specs.Asks.{Handed, Standings};
+ghost use Rattle.year_months.specs.Asks.{InPeriod, Holds, HoldsYear};
+ghost use Rattle.year_heads.specs.Asks.{HoldsHeads};
+ghost use Rattle.year_lines.specs.Lines.{enteredBy, enteredAt, monthAt, otherOf, lineIn, all, sumsOf};
+ghost use Rattle.year_lines.specs.Asks.{Handed, Standings, LineRanged, MonthsDays};
 use book_herd::Line;
 use book_slots::Seen;
 use lagoon_month::Standing;
@@ -73,7 +76,7 @@ fn standings_before(book: &[u8], year: usize) -> [Standing; LINES]
 }
 
 // All lines, each from the standing that the year before handed on. Days and factors are the months'
-// alone, and worked out once.
+// alone, and the heads the categories': they are worked out once.
 fn sums_from(book: &[u8], year: usize, before: [Standing; LINES]) -> LinesYear
     requires { ⌜ Valid (now book) ⌝ }
     requires { ⌜ InPeriod year ⌝ }
@@ -81,13 +84,14 @@ fn sums_from(book: &[u8], year: usize, before: [Standing; LINES]) -> LinesYear
     ensures { λ r. ⌜ r .sums ≡ sumsOf (now (book .entry)) year all ⌝ }
     ensures { λ r. ⌜ Standings (now (book .entry)) year (r .standings) ⌝ }
 {
+    let heads = year_heads::by_category(book, year);
     let days = year_months::days(book, year);
     let factors = year_months::factors(book, year);
     let mut standings = before;
     let mut sums = Sums::nothing();
     for line in 1..=LINES {
         let from = standings[line - 1];
-        let own = line_in(book, year, line, from, &days, &factors);
+        let own = line_in(book, year, line, from, &heads, &days, &factors);
         let next = own.standing;
         standings[line - 1] = next;
         sums = sums.plus(own.sums);
@@ -102,6 +106,7 @@ fn line_in(
     year: usize,
     line: usize,
     from: Standing,
+    heads: &[u64],
     days: &[u64],
     factors: &[u64],
 ) -> LineYear
@@ -109,8 +114,9 @@ fn line_in(
     requires { ⌜ InPeriod year ⌝ }
     requires { ⌜ line ≤ lines ⌝ }
     requires { ⌜ Handed (now book) (year - 1) line from ⌝ }
-    requires { ⌜ Holds ℕ 0 (monthsBefore year) monthsInYear (daysAt (now book)) (now days) ⌝ }
-    requires { ⌜ Holds ℕ 0 (monthsBefore year) monthsInYear (factorAt (now book)) (now factors) ⌝ }
+    requires { ⌜ HoldsHeads (now book) year (now heads) ⌝ }
+    requires { ⌜ HoldsYear ℕ 0 year (daysAt (now book)) (now days) ⌝ }
+    requires { ⌜ HoldsYear ℕ 0 year (factorAt (now book)) (now factors) ⌝ }
     ensures { λ r. ⌜ r .sums ≡ lineIn (now (book .entry)) year line ⌝ }
     ensures { λ r. ⌜ Handed (now (book .entry)) year line (r .standing) ⌝ }
 {
@@ -121,8 +127,10 @@ fn line_in(
         };
     };
     let numbers = book_herd::line_at(book, line);
+    let herd = heads[numbers.category as usize - 1];
     if system == ANAEROBIC {
-        let totals = solids(book, year, line, numbers, from, days, factors);
+        let entered = entries(numbers, herd, days);
+        let totals = solids(book, year, line, from, &entered, factors);
         let standing = totals.standing;
         return LineYear {
             sums: Sums::anaerobic(totals, numbers.b0),
@@ -130,9 +138,30 @@ fn line_in(
         };
     }
     LineYear {
-        sums: other(book, year, line, numbers),
+        sums: other(numbers, herd),
         standing: from,
     }
+}
+
+// What a line enters in grams, month by month of a year, by the sum of the year's heads.
+fn entries(numbers: Line, heads: u64, days: &[u64]) -> [u64; MONTHS_IN_YEAR]
+    requires { ⌜ LineRanged numbers ⌝ }
+    requires { ⌜ heads ≤ headsMost ⌝ }
+    requires { ⌜ MonthsDays (now days) ⌝ }
+    ensures { λ r. ⌜ Holds ℕ 0 monthsInYear 0 monthsInYear (λ m. enteredBy heads numbers (getD (now (days .entry)) (m - 1) 0) .0) r ⌝ }
+{
+    let mut entries = [0u64; MONTHS_IN_YEAR];
+    for passed in 0..MONTHS_IN_YEAR {
+        let entered = lagoon_month::entered(
+            heads,
+            numbers.solids,
+            numbers.mass,
+            numbers.share,
+            days[passed],
+        );
+        entries[passed] = entered.grams();
+    }
+    entries
 }
 
 // The year's solids of an anaerobic line, from what it entered and when it was drained: its twelve
@@ -141,66 +170,20 @@ fn solids(
     book: &[u8],
     year: usize,
     line: usize,
-    numbers: Line,
     from: Standing,
-    days: &[u64],
+    entered: &[u64],
     factors: &[u64],
 ) -> Totals
     requires { ⌜ Valid (now book) ⌝ }
     requires { ⌜ InPeriod year ⌝ }
     requires { ⌜ line ≤ lines ⌝ }
-    requires { ⌜ numbers ≡ lineOf (now book) line ⌝ }
     requires { ⌜ from ≡ runOf (monthAt (now book) line) (monthsBefore year) .standing ⌝ }
-    requires { ⌜ Holds ℕ 0 (monthsBefore year) monthsInYear (daysAt (now book)) (now days) ⌝ }
-    requires { ⌜ Holds ℕ 0 (monthsBefore year) monthsInYear (factorAt (now book)) (now factors) ⌝ }
+    requires { ⌜ HoldsYear ℕ 0 year (λ m. enteredAt (now book) line m .0) (now entered) ⌝ }
+    requires { ⌜ HoldsYear ℕ 0 year (factorAt (now book)) (now factors) ⌝ }
     ensures { λ r. ⌜ r ≡ yearOf (monthAt (now (book .entry)) line) year ⌝ }
 {
-    let entered = entries(book, year, line, numbers, days);
     let drained = drains(book, year, line);
-    lagoon_run::run(from, &entered, factors, &drained)
-}
-
-// What a line enters, month by month of the year, in grams.
-fn entries(
-    book: &[u8],
-    year: usize,
-    line: usize,
-    numbers: Line,
-    days: &[u64],
-) -> [u64; MONTHS_IN_YEAR]
-    requires { ⌜ Valid (now book) ⌝ }
-    requires { ⌜ InPeriod year ⌝ }
-    requires { ⌜ line ≤ lines ⌝ }
-    requires { ⌜ numbers ≡ lineOf (now book) line ⌝ }
-    requires { ⌜ Holds ℕ 0 (monthsBefore year) monthsInYear (daysAt (now book)) (now days) ⌝ }
-    ensures { λ r. ⌜ Holds ℕ 0 (monthsBefore year) monthsInYear (λ m. enteredAt (now (book .entry)) line m .0) r ⌝ }
-{
-    let before = year_months::months_before(year);
-    let mut entries = [0u64; MONTHS_IN_YEAR];
-    for passed in 0..MONTHS_IN_YEAR {
-        let month = before + passed + 1;
-        entries[passed] = entry(book, line, numbers, month, days[passed]).grams();
-    }
-    entries
-}
-
-fn entry(book: &[u8], line: usize, numbers: Line, month: usize, days: u64) -> Solids
-    requires { ⌜ Valid (now book) ⌝ }
-    requires { ⌜ (line ≤ lines) × (month ≤ months) ⌝ }
-    requires { ⌜ numbers ≡ lineOf (now book) line ⌝ }
-    requires { ⌜ days ≡ daysAt (now book) month ⌝ }
-    ensures { λ r. ⌜ r ≡ enteredAt (now (book .entry)) line month ⌝ }
-{
-    let head = head(book, numbers.category as usize, month);
-    lagoon_month::entered(head, numbers.solids, numbers.mass, numbers.share, days)
-}
-
-fn head(book: &[u8], category: usize, month: usize) -> u64
-    requires { ⌜ Valid (now book) ⌝ }
-    requires { ⌜ (category ≤ categories) × (month ≤ months) ⌝ }
-    ensures { λ r. ⌜ r ≡ headAt (now (book .entry)) category month ⌝ }
-{
-    year_months::amount(book_herd::head(book, category, month))
+    lagoon_run::run(from, entered, factors, &drained)
 }
 
 // When a line was drained, month by month of the year.
@@ -208,7 +191,7 @@ fn drains(book: &[u8], year: usize, line: usize) -> [bool; MONTHS_IN_YEAR]
     requires { ⌜ Valid (now book) ⌝ }
     requires { ⌜ InPeriod year ⌝ }
     requires { ⌜ line ≤ lines ⌝ }
-    ensures { λ r. ⌜ Holds Bool false (monthsBefore year) monthsInYear (drainedOf (now (book .entry)) line) r ⌝ }
+    ensures { λ r. ⌜ HoldsYear Bool false year (drainedOf (now (book .entry)) line) r ⌝ }
 {
     let before = year_months::months_before(year);
     let mut drains = [false; MONTHS_IN_YEAR];
@@ -218,30 +201,12 @@ fn drains(book: &[u8], year: usize, line: usize) -> [bool; MONTHS_IN_YEAR]
     drains
 }
 
-// The sum of the year's twelve heads.
-fn heads(book: &[u8], year: usize, category: usize) -> u64
-    requires { ⌜ Valid (now book) ⌝ }
-    requires { ⌜ InPeriod year ⌝ }
-    requires { ⌜ category ≤ categories ⌝ }
-    ensures { λ r. ⌜ r ≡ headsOf (now (book .entry)) year category ⌝ }
+// A line of another system, by the sum of the year's heads: each division rounds down.
+fn other(numbers: Line, heads: u64) -> Sums
+    requires { ⌜ LineRanged numbers ⌝ }
+    requires { ⌜ heads ≤ headsMost ⌝ }
+    ensures { λ r. ⌜ r ≡ otherOf heads numbers ⌝ }
 {
-    let before = year_months::months_before(year);
-    let mut heads = 0;
-    for month in 1..=MONTHS_IN_YEAR {
-        heads += head(book, category, before + month);
-    }
-    heads
-}
-
-// Another line, by the sum of its heads: each division rounds down.
-fn other(book: &[u8], year: usize, line: usize, numbers: Line) -> Sums
-    requires { ⌜ Valid (now book) ⌝ }
-    requires { ⌜ InPeriod year ⌝ }
-    requires { ⌜ line ≤ lines ⌝ }
-    requires { ⌜ numbers ≡ lineOf (now book) line ⌝ }
-    ensures { λ r. ⌜ r ≡ otherOf (headsOf (now (book .entry)) year (numbers .category)) numbers ⌝ }
-{
-    let heads = heads(book, year, numbers.category as usize);
     let daily = heads * numbers.solids * numbers.mass * numbers.share / DAILY_PARTS;
     let yearly = Solids::of_grams(daily * DAYS_IN_YEAR);
     let degraded = yearly.share(numbers.conversion, CONVERSION_PARTS);

@@ -6,7 +6,6 @@ use native.Mathlib.Omega.{arith}
 use lib.ListN.{getD}
 use lib.Seq.{ext-getD}
 use Rattle.laws.proofs.Determined.{OneAnswer, one}
-use Rattle.calendar.specs.Days.{monthsInYear}
 use Rattle.year_months.specs.Asks.{Holds}
 use Rattle.year_months.proofs.is_filled.Reads as IsFilled
 use Rattle.year_months.proofs.amount.Reads as Amount
@@ -27,17 +26,17 @@ months-before-one κ a x y s t = one
 pub months-through-one : OneAnswer MonthsThrough.Learnt
 months-through-one κ a x y s t = one
 
--- an array with all of a year's months of a series is one
-same-year :
-    {before : ℕ} {series : ℕ → ℕ} {x y : List ℕ} → Holds ℕ 0 before monthsInYear series x → Holds ℕ 0 before monthsInYear series y → x ≡ y
-same-year {x = x} {y = y} p q =
+-- an array that holds a series at as many numbers as it has entries is one
+pub same-array :
+    {entries before : ℕ} {series : ℕ → ℕ} {x y : List ℕ} → Holds ℕ 0 entries before entries series x → Holds ℕ 0 entries before entries series y → x ≡ y
+same-array {x = x} {y = y} p q =
     ext-getD 0 x y (one (p .long) (q .long))
     (λ i inside.
     subst (λ (k : ℕ). getD x k 0 ≡ getD y k 0) (omega arith)
     (one (p .each (i + 1) (omega arith) (omega (arith, p .long))) (q .each (i + 1) (omega arith) (omega (arith, p .long)))))
 
 pub days-one : OneAnswer Days.Learnt
-days-one κ a x y s t = same-year
+days-one κ a x y s t = same-array
 
 pub factors-one : OneAnswer Factors.Learnt
-factors-one κ a x y s t = same-year
+factors-one κ a x y s t = same-array

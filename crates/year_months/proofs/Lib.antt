@@ -1,3 +1,4 @@
 pub mod Determined
 pub mod Ranges
 pub mod Arrays
+pub mod Years

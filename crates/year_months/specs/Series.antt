@@ -1,6 +1,7 @@
 -- The amount in a slot, the years of the crediting period, and what a book says of a month (01, "The records", "The lagoon month"). Months count from 1.
-use Prim.Native.Nat.{ℕ, _*_, _-_}
+use Prim.Native.Nat.{ℕ, _+_, _*_, _-_, _/_}
 use mathlib.Core.{Bool.Bool, Bool.true, Bool.false, List.List}
+use Rattle.laws.specs.Counting.{sum}
 use Rattle.calendar.specs.Days.{monthsInYear, daysOf}
 use Rattle.lagoon_factor.specs.Factor.{factorOf}
 use Rattle.book_slots.specs.Reads.{firstYearOf, firstMonthOf, temperatureOf}
@@ -31,6 +32,14 @@ monthsBefore year = monthsInYear * (year - 1)
 
 abbrev pub monthsThrough : ℕ → ℕ
 monthsThrough year = monthsInYear * year
+
+-- the year that month m falls in (02, (ii))
+abbrev pub yearAt : ℕ → ℕ
+yearAt m = (m - 1) / monthsInYear + firstYear
+
+-- the sum of a figure over the twelve months of a year
+abbrev pub overYear : ℕ → (ℕ → ℕ) → ℕ
+overYear year each = sum monthsInYear (λ m. each (monthsBefore year + m))
 
 -- the days of month m
 unfoldable pub daysAt : List ℕ → ℕ → ℕ

@@ -5,7 +5,7 @@ ghost use Rattle.calendar.specs.Days.{monthsInYear, daysOf};
 ghost use Rattle.record_table.specs.Table.{months};
 ghost use Rattle.book.specs.Valid.{Valid};
 ghost use Rattle.year_months.specs.Series.{filled, amountOf, monthsBefore, monthsThrough, daysAt, factorAt, factorBy};
-ghost use Rattle.year_months.specs.Asks.{InPeriod, Holds};
+ghost use Rattle.year_months.specs.Asks.{InPeriod, Holds, HoldsYear};
 use book_slots::Seen;
 use book_slots::Warmth;
 
@@ -49,7 +49,7 @@ pub fn months_through(year: usize) -> usize
 pub fn days(book: &[u8], year: usize) -> [u64; MONTHS_IN_YEAR]
     requires { ⌜ Valid (now book) ⌝ }
     requires { ⌜ InPeriod year ⌝ }
-    ensures { λ r. ⌜ Holds ℕ 0 (monthsBefore year) monthsInYear (daysAt (now (book .entry))) r ⌝ }
+    ensures { λ r. ⌜ HoldsYear ℕ 0 year (daysAt (now (book .entry))) r ⌝ }
 {
     let first_year = amount(book_slots::first_year(book));
     let first_month = amount(book_slots::first_month(book));
@@ -59,7 +59,7 @@ pub fn days(book: &[u8], year: usize) -> [u64; MONTHS_IN_YEAR]
 fn lengths(first_year: u64, first_month: u64, before: usize) -> [u64; MONTHS_IN_YEAR]
     requires { ⌜ («first_year» ≤ 2089) × («first_month» ≤ 12) ⌝ }
     requires { ⌜ before + monthsInYear ≤ months ⌝ }
-    ensures { λ r. ⌜ Holds ℕ 0 before monthsInYear (daysOf «first_year» «first_month») r ⌝ }
+    ensures { λ r. ⌜ Holds ℕ 0 monthsInYear before monthsInYear (daysOf «first_year» «first_month») r ⌝ }
 {
     let mut lengths = [0u64; MONTHS_IN_YEAR];
     for passed in 0..MONTHS_IN_YEAR {
@@ -73,7 +73,7 @@ fn lengths(first_year: u64, first_month: u64, before: usize) -> [u64; MONTHS_IN_
 pub fn factors(book: &[u8], year: usize) -> [u64; MONTHS_IN_YEAR]
     requires { ⌜ Valid (now book) ⌝ }
     requires { ⌜ InPeriod year ⌝ }
-    ensures { λ r. ⌜ Holds ℕ 0 (monthsBefore year) monthsInYear (factorAt (now (book .entry))) r ⌝ }
+    ensures { λ r. ⌜ HoldsYear ℕ 0 year (factorAt (now (book .entry))) r ⌝ }
 {
     let before = months_before(year);
     let mut factors = [0u64; MONTHS_IN_YEAR];

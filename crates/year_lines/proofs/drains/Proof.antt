@@ -14,7 +14,7 @@ use Rattle.year_lines.proofs.drains.Tie as tie
 
 abbrev Inv-loop : tie.InvT-loop
 Inv-loop book year line before drains₀ passed₀ drains passed =
-    (passed ≤ monthsInYear) × (before + monthsInYear ≤ months) × Holds Bool false before passed (drainedOf book line) drains
+    (passed ≤ monthsInYear) × (before + monthsInYear ≤ months) × Holds Bool false monthsInYear before passed (drainedOf book line) drains
 
 abbrev μ-loop : tie.MeasureT-loop
 μ-loop book year line before drains₀ passed₀ drains passed = monthsInYear - passed
@@ -23,7 +23,7 @@ months-before-requires : tie.Need-months-before-requires Inv-loop μ-loop
 months-before-requires c κs = c .before .pre .1 .0
 
 loop-holds : tie.Need-loop-holds Inv-loop μ-loop
-loop-holds c = (omega arith, omega (arith, c .months-before .ensures, c .before .before .pre .1 .0 .high), array-begins false _ _ _ refl)
+loop-holds c = (omega arith, omega (arith, c .months-before .ensures, c .before .before .pre .1 .0 .high), array-begins false _ _ _ _ refl)
 
 add-drained : tie.Need-add-drained Inv-loop μ-loop
 add-drained c = omega arith
@@ -47,7 +47,7 @@ loop-again : tie.Need-loop-again Inv-loop μ-loop
 loop-again c = let loop = c .before .before .loop in (
   omega arith,
   loop .inv .1,
-  array-more false _ _ (loop .drains) (loop .passed) (c .drained .result) (omega arith) (c .drained .ensures) (loop .inv .2),
+  array-more false _ _ _ (loop .drains) (loop .passed) (c .drained .result) (omega arith) (c .drained .ensures) (loop .inv .2),
 )
 
 returns : tie.Need-returns Inv-loop μ-loop

@@ -6,41 +6,23 @@ use Rattle.year_lines.proofs.Bounds.{arrays-fit, year-run}
 use Rattle.year_lines.proofs.solids.Statement.{statement}
 use Rattle.year_lines.proofs.solids.Tie as tie
 
-entries-requires : tie.Need-entries-requires
-entries-requires c κs =
-    let start = c .before .before .before in
-    (start .pre .0, (start .pre .1 .0, (start .pre .1 .1 .0, (start .pre .1 .1 .1 .0, start .pre .1 .1 .1 .1 .1 .0))))
-
 drains-requires : tie.Need-drains-requires
 drains-requires c κs = search needs
 
 slice-aggregate-run : tie.Need-slice-aggregate-run
 slice-aggregate-run c = search needs
 
-slice-aggregate-run-2 : tie.Need-slice-aggregate-run-2
-slice-aggregate-run-2 c = search needs
-
 run-requires : tie.Need-run-requires
 run-requires c κs =
-    let read = c .before .before .before in
-    let start = read .before .before .before .before in
-    arrays-fit (now (start .args .book)) (start .pre .0) (start .args .line) (start .pre .1 .1 .0) (start .args .year) (start .pre .1 .0) (read .entries .ensures)
-    (start .pre .1 .1 .1 .1 .1 .1) (c .before .before .drains .ensures) (start .pre .1 .1 .1 .1 .0)
+    let start = c .before .before .before .before .before in
+    arrays-fit (now (start .args .book)) (start .pre .0) (start .args .line) (start .pre .1 .1 .0) (start .args .year) (start .pre .1 .0)
+    (start .pre .1 .1 .1 .1 .0) (start .pre .1 .1 .1 .1 .1) (c .before .drains .ensures) (start .pre .1 .1 .1 .0)
 
 returns : tie.Need-returns
 returns c =
-    let read = c .before .before .before .before in
-    let start = read .before .before .before .before in
-    year-run (now (start .args .book)) (start .pre .0) (start .args .line) (start .pre .1 .1 .0) (start .args .year) (start .pre .1 .0) (read .entries .ensures)
-    (start .pre .1 .1 .1 .1 .1 .1) (c .before .before .before .drains .ensures) (start .pre .1 .1 .1 .1 .0) (c .run .ensures)
+    let start = c .before .before .before .before .before .before in
+    year-run (now (start .args .book)) (start .pre .0) (start .args .line) (start .pre .1 .1 .0) (start .args .year) (start .pre .1 .0)
+    (start .pre .1 .1 .1 .1 .0) (start .pre .1 .1 .1 .1 .1) (c .before .before .drains .ensures) (start .pre .1 .1 .1 .0) (c .run .ensures)
 
 pub solids-spec : {M : Type 1} → statement M
-solids-spec =
-    tie.close
-    (tie.spec
-    entries-requires
-    drains-requires
-    slice-aggregate-run
-    slice-aggregate-run-2
-    run-requires
-    returns)
+solids-spec = tie.close (tie.spec drains-requires slice-aggregate-run run-requires returns)

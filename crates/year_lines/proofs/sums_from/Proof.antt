@@ -14,11 +14,14 @@ use Rattle.year_lines.proofs.sums_from.Statement.{statement}
 use Rattle.year_lines.proofs.sums_from.Tie as tie
 
 abbrev Inv-loop : tie.InvT-loop
-Inv-loop book year days factors standings₀ sums₀ line₀ standings sums line =
+Inv-loop book year heads days factors standings₀ sums₀ line₀ standings sums line =
     (1 ≤ line) × (line ≤ lines + 1) × Renewed book year line standings × (sums ≡ sumsOver (lineIn book year) all (line - 1))
 
 abbrev μ-loop : tie.MeasureT-loop
-μ-loop book year days factors standings₀ sums₀ line₀ standings sums line = lines + 1 - line
+μ-loop book year heads days factors standings₀ sums₀ line₀ standings sums line = lines + 1 - line
+
+by-category-requires : tie.Need-by-category-requires Inv-loop μ-loop
+by-category-requires c κs = search needs
 
 days-requires : tie.Need-days-requires Inv-loop μ-loop
 days-requires c κs = search needs
@@ -32,7 +35,7 @@ nothing-requires c κs = search needs
 loop-holds : tie.Need-loop-holds Inv-loop μ-loop
 unfolding sumsOver
 loop-holds c =
-    let start = c .before .before .before .before in
+    let start = c .before .before .before .before .before in
     (omega arith, omega arith, renewed-none (now (start .args .book)) (start .args .year) (start .pre .1 .1), c .nothing .ensures)
 
 sub-from : tie.Need-sub-from Inv-loop μ-loop
@@ -45,21 +48,22 @@ array-copy-out-from : tie.Need-array-copy-out-from Inv-loop μ-loop
 array-copy-out-from c = omega arith
 
 slice-aggregate-line-in : tie.Need-slice-aggregate-line-in Inv-loop μ-loop
-slice-aggregate-line-in c = sym (c .before .before .before .before .before .before .days .ensures .long)
+slice-aggregate-line-in c = sym (c .before .before .before .before .before .before .before .by-category .ensures .long)
 
 slice-aggregate-line-in-2 : tie.Need-slice-aggregate-line-in-2 Inv-loop μ-loop
-slice-aggregate-line-in-2 c = sym (c .before .before .before .before .before .before .factors .ensures .long)
+slice-aggregate-line-in-2 c = sym (c .before .before .before .before .before .before .before .days .ensures .long)
+
+slice-aggregate-line-in-3 : tie.Need-slice-aggregate-line-in-3 Inv-loop μ-loop
+slice-aggregate-line-in-3 c = sym (c .before .before .before .before .before .before .before .factors .ensures .long)
 
 line-in-requires : tie.Need-line-in-requires Inv-loop μ-loop
 line-in-requires c κs =
-    let loop = c .before .before .before .before .loop in
-    let made = c .before .before .before .before .before .before in
-    let start = made .before .before .before in (
+    let loop = c .before .before .before .before .before .loop in
+    let made = c .before .before .before .before .before .before .before in
+    let start = made .before .before .before .before in
+    let left = loop .inv .2 .left (loop .line) (omega arith) (omega arith) in (
       start .pre .0,
-      (
-        start .pre .1 .0,
-        (omega arith, (loop .inv .2 .left (loop .line) (omega arith) (omega arith), (made .before .days .ensures, made .factors .ensures))),
-      ),
+      (start .pre .1 .0, (omega arith, (left, (made .before .before .by-category .ensures, (made .before .days .ensures, made .factors .ensures))))),
     )
 
 sub-standings : tie.Need-sub-standings Inv-loop μ-loop
@@ -73,8 +77,8 @@ array-set-from-standings c = omega arith
 
 plus-requires : tie.Need-plus-requires Inv-loop μ-loop
 plus-requires c κs =
-    let loop = c .before .before .before .before .before .before .loop in
-    let start = c .before .before .before .before .before .before .before .before .before .before .before in
+    let loop = c .before .before .before .before .before .before .before .loop in
+    let start = c .before .before .before .before .before .before .before .before .before .before .before .before .before in
     rw (loop .inv .3, c .before .line-in .ensures .0)
     (sums-fit (now (start .args .book)) (start .pre .0) (start .args .year) (start .pre .1 .0) (loop .line - 1) (loop .line) (omega arith) (omega arith))
 
@@ -86,8 +90,8 @@ loop-less c = omega arith
 
 loop-again : tie.Need-loop-again Inv-loop μ-loop
 loop-again c =
-    let loop = c .before .before .before .before .before .before .before .loop in
-    let start = c .before .before .before .before .before .before .before .before .before .before .before .before in
+    let loop = c .before .before .before .before .before .before .before .before .loop in
+    let start = c .before .before .before .before .before .before .before .before .before .before .before .before .before .before in
     let own = c .before .before .line-in .ensures in (
       omega arith,
       omega arith,
@@ -98,7 +102,7 @@ loop-again c =
 returns : tie.Need-returns Inv-loop μ-loop
 returns c =
     let loop = c .before .loop in
-    let start = c .before .before .before .before .before .before in
+    let start = c .before .before .before .before .before .before .before in
     let end : loop .line - 1 ≡ lines = omega arith in
     (loop .inv .3 ∙ ap (sumsOver _ all) end, renewed-all (now (start .args .book)) (start .args .year) (omega arith) (loop .inv .2))
 
@@ -108,6 +112,7 @@ sums-from-spec =
     (tie.spec
     Inv-loop
     μ-loop
+    by-category-requires
     days-requires
     factors-requires
     nothing-requires
@@ -117,6 +122,7 @@ sums-from-spec =
     array-copy-out-from
     slice-aggregate-line-in
     slice-aggregate-line-in-2
+    slice-aggregate-line-in-3
     line-in-requires
     sub-standings
     mul-standings

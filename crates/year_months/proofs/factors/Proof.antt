@@ -14,7 +14,7 @@ use Rattle.year_months.proofs.factors.Tie as tie
 
 abbrev Inv-loop : tie.InvT-loop
 Inv-loop book year before factors₀ passed₀ factors passed =
-    (passed ≤ monthsInYear) × (before + monthsInYear ≤ months) × Holds ℕ 0 before passed (factorAt book) factors
+    (passed ≤ monthsInYear) × (before + monthsInYear ≤ months) × Holds ℕ 0 monthsInYear before passed (factorAt book) factors
 
 abbrev μ-loop : tie.MeasureT-loop
 μ-loop book year before factors₀ passed₀ factors passed = monthsInYear - passed
@@ -23,7 +23,7 @@ months-before-requires : tie.Need-months-before-requires Inv-loop μ-loop
 months-before-requires c κs = c .before .pre .1
 
 loop-holds : tie.Need-loop-holds Inv-loop μ-loop
-loop-holds c = (omega arith, omega (arith, c .months-before .ensures, c .before .before .pre .1 .high), array-begins 0 _ _ _ refl)
+loop-holds c = (omega arith, omega (arith, c .months-before .ensures, c .before .before .pre .1 .high), array-begins 0 _ _ _ _ refl)
 
 add-temperature : tie.Need-add-temperature Inv-loop μ-loop
 add-temperature c = omega arith
@@ -54,7 +54,7 @@ unfolding factorAt
 loop-again c = let loop = c .before .before .before .loop in (
   omega arith,
   loop .inv .1,
-  array-more 0 _ _ (loop .factors) (loop .passed) (c .factor-by .result) (omega arith)
+  array-more 0 _ _ _ (loop .factors) (loop .passed) (c .factor-by .result) (omega arith)
       (c .factor-by .ensures ∙ ap factorBy (c .before .temperature .ensures)) (loop .inv .2),
 )
 

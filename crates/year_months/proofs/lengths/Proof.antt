@@ -11,13 +11,13 @@ use Rattle.year_months.proofs.lengths.Tie as tie
 
 abbrev Inv-loop : tie.InvT-loop
 Inv-loop first-year first-month before lengths₀ passed₀ lengths passed =
-    (passed ≤ monthsInYear) × Holds ℕ 0 before passed (daysOf first-year first-month) lengths
+    (passed ≤ monthsInYear) × Holds ℕ 0 monthsInYear before passed (daysOf first-year first-month) lengths
 
 abbrev μ-loop : tie.MeasureT-loop
 μ-loop first-year first-month before lengths₀ passed₀ lengths passed = monthsInYear - passed
 
 loop-holds : tie.Need-loop-holds Inv-loop μ-loop
-loop-holds c = (omega arith, array-begins 0 _ _ _ refl)
+loop-holds c = (omega arith, array-begins 0 _ _ _ _ refl)
 
 add-month : tie.Need-add-month Inv-loop μ-loop
 add-month c = omega (arith, c .before .before .pre .1)
@@ -43,7 +43,7 @@ loop-less c = omega arith
 loop-again : tie.Need-loop-again Inv-loop μ-loop
 loop-again c =
     let loop = c .before .before .loop in
-    (omega arith, array-more 0 _ _ (loop .lengths) (loop .passed) (c .days .result) (omega arith) (c .days .ensures) (loop .inv .1))
+    (omega arith, array-more 0 _ _ _ (loop .lengths) (loop .passed) (c .days .result) (omega arith) (c .days .ensures) (loop .inv .1))
 
 returns : tie.Need-returns Inv-loop μ-loop
 returns c = array-full (c .before .loop .inv .1) refl (omega arith)

@@ -1,11 +1,11 @@
--- `year_lines::head` meets its contract: the read and its amount.
+-- `year_heads::head` meets its contract: the read and its amount.
 -- Assumes nothing.
 use mathlib.Core.Path.{ap, _∙_}
 use borrow.Author.Needs.{needs}
 use Rattle.year_months.specs.Series.{amountOf}
-use Rattle.year_lines.specs.Lines.{headAt}
-use Rattle.year_lines.proofs.head.Statement.{statement}
-use Rattle.year_lines.proofs.head.Tie as tie
+use Rattle.year_heads.specs.Heads.{headAt}
+use Rattle.year_heads.proofs.head.Statement.{statement}
+use Rattle.year_heads.proofs.head.Tie as tie
 
 head-requires : tie.Need-head-requires
 head-requires c κs = search needs

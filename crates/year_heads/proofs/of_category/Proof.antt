@@ -1,4 +1,4 @@
--- `year_lines::heads` meets its contract: the sum of the months before the one that the loop has come to.
+-- `year_heads::of_category` meets its contract: the sum of the months before the one that the loop has come to.
 -- Assumes nothing.
 use Prim.Native.Nat.{ℕ, _+_, _-_, _≤_}
 use mathlib.Core.Path.{ap, _∙_, _≡_}
@@ -8,10 +8,10 @@ use Rattle.laws.proofs.Counting.{sum-more, sum-most, sum-none}
 use Rattle.laws.specs.Counting.{sum}
 use Rattle.calendar.specs.Days.{monthsInYear}
 use Rattle.year_months.specs.Series.{monthsBefore}
-use Rattle.year_lines.specs.Lines.{headsOf, headAt}
-use Rattle.year_lines.proofs.Ranges.{head-most}
-use Rattle.year_lines.proofs.heads.Statement.{statement}
-use Rattle.year_lines.proofs.heads.Tie as tie
+use Rattle.year_heads.specs.Heads.{headsOf, headAt}
+use Rattle.year_heads.proofs.Ranges.{head-most}
+use Rattle.year_heads.proofs.of_category.Statement.{statement}
+use Rattle.year_heads.proofs.of_category.Tie as tie
 
 abbrev Inv-loop : tie.InvT-loop
 Inv-loop book year category before heads₀ month₀ heads month =
@@ -78,8 +78,8 @@ returns c =
     let start = c .before .before .before .before in
     c .before .loop .inv .3 ∙ ap (λ (n : ℕ). sum n (λ m. headAt (now (start .args .book)) (start .args .category) (monthsBefore (start .args .year) + m))) end
 
-pub heads-spec : {M : Type 1} → statement M
-heads-spec =
+pub of-category-spec : {M : Type 1} → statement M
+of-category-spec =
     tie.close
     (tie.spec
     Inv-loop

@@ -1,0 +1,40 @@
+-- What a line enters in the months of a year, from what the code read: its numbers, the sum of the year's heads and the days. Assumes nothing.
+use Prim.Native.Nat.{ℕ, _+_, _-_, _≤_, _<_}
+use mathlib.Core.List.{List}
+use mathlib.Core.Path.{ap, subst, sym, _≡_, _∙_}
+use native.Mathlib.Omega.{arith}
+use lib.ListN.{getD}
+use Rattle.calendar.specs.Days.{monthsInYear}
+use Rattle.book_herd.specs.Herd.{lineOf}
+use Rattle.book_herd.specs.declared.Line.{Line}
+use Rattle.year_months.specs.Asks.{Holds, HoldsYear}
+use Rattle.year_months.specs.Series.{monthsBefore, yearAt, daysAt}
+use Rattle.year_months.proofs.Arrays.{array-at}
+use Rattle.year_months.proofs.Years.{own-year}
+use Rattle.year_heads.specs.Heads.{headsOf}
+use Rattle.year_lines.specs.Asks.{MonthsDays}
+use Rattle.year_lines.specs.Lines.{enteredBy, enteredAt}
+use Rattle.year_lines.proofs.Ranges.{days-most}
+
+-- the days of a book are a month's
+pub months-days : (book : List ℕ) (year : ℕ) {days : List ℕ} → HoldsYear ℕ 0 year (daysAt book) days → MonthsDays days
+months-days book year held =
+    record { long = held .long; each = λ i below. rw (array-at held i below) (days-most book (monthsBefore year + i + 1)) }
+
+pub entered-held :
+    (book : List ℕ) (line year : ℕ) → 1 ≤ year → (numbers : Line) (heads : ℕ) {days entered : List ℕ} → numbers ≡ lineOf book line →
+    heads ≡ headsOf book year (numbers .category) → HoldsYear ℕ 0 year (daysAt book) days →
+    Holds ℕ 0 monthsInYear 0 monthsInYear (λ m. enteredBy heads numbers (getD days (m - 1) 0) .0) entered → HoldsYear ℕ 0 year (λ m. enteredAt book line m .0) entered
+unfolding enteredAt
+entered-held book line year some numbers heads {days} read summed held made =
+    record {
+      long = made .long;
+      each = λ m low high.
+          let at = monthsBefore year + m in
+          let first : 0 + m ≡ m = omega arith in
+          made .each m low high ∙ ap (λ (n : ℕ). enteredBy heads numbers (getD days (n - 1) 0) .0) first ∙
+          ap (λ (d : ℕ). enteredBy heads numbers d .0) (held .each m low high) ∙
+          ap (λ (n : ℕ). enteredBy n numbers (daysAt book at) .0)
+          (summed ∙ ap (λ (y : ℕ). headsOf book y (numbers .category)) (sym (own-year year m some low high))) ∙
+          ap (λ (x : Line). enteredBy (headsOf book (yearAt at) (x .category)) x (daysAt book at) .0) read;
+    }
