@@ -38,6 +38,11 @@ sum-same f g zero each = refl
 sum-same f g (suc n) each =
     rw (each (suc n) (omega arith) (omega arith), sum-same f g n (λ i low high. each i low (omega arith)))
 
+pub sum-plus : (f g : ℕ → ℕ) (n : ℕ) → sum n f + sum n g ≡ sum n (λ i. f i + g i)
+unfolding sum
+sum-plus f g zero = refl
+sum-plus f g (suc n) = omega (arith, sum-plus f g n)
+
 -- a search up to an end that has come to i: it stops there, passes i, or has nothing left to look at
 module _ (end i : ℕ) (test : ℕ → Bool) where
   step : i < end → firstFrom i (end - i) test ≡ cond (test i) i (firstFrom (i + 1) (end - (i + 1)) test)

@@ -5,7 +5,7 @@ use mathlib.Core.Path.{_≡_, refl, ap, _∙_}
 use native.Mathlib.Nat.{zero-add, add-mul, mul-add, mul-right-comm}
 use native.Mathlib.Omega.{arith}
 use Rattle.laws.specs.Counting.{sum}
-use Rattle.laws.proofs.Counting.{Each, sum-same}
+use Rattle.laws.proofs.Counting.{Each, sum-same, sum-plus}
 use Rattle.calendar.specs.Days.{monthsInYear}
 use Rattle.lagoon_month.specs.Month.{enteredOf}
 use Rattle.record_table.specs.Table.{lines}
@@ -15,8 +15,9 @@ use Rattle.book_slots.specs.declared.Seen.the-variants.{Value}
 use Rattle.book_herd.specs.Herd.{systemOf, lineOf, drainedOf}
 use Rattle.book_herd.specs.declared.Line.{Line}
 use Rattle.year_months.specs.Asks.{InPeriod}
-use Rattle.year_months.specs.Series.{firstYear, monthsThrough, factorBy, factorAt, daysAt}
-use Rattle.year_lines.specs.Lines.{anaerobic, headAt, enteredAt, monthAt, lineIn}
+use Rattle.year_months.specs.Series.{firstYear, monthsBefore, monthsThrough, yearAt, factorBy, factorAt, daysAt}
+use Rattle.year_heads.specs.Heads.{headAt, headsOf}
+use Rattle.year_lines.specs.Lines.{anaerobic, enteredAt, monthAt, lineIn}
 use Rattle.year_lines.proofs.Parts.{LineOf}
 use Rattle.year_lines.proofs.Ranges.{factor-most, line-ranged}
 use Rattle.year_lines.proofs.BySystem.{anaerobic-is}
@@ -26,29 +27,37 @@ use Rattle.year_splitting.proofs.Grams.{statedOver, YearsStated, years-
 abbrev pub numbersOf : LineOf → Line
 numbersOf line = lineOf (line .book) (line .line)
 
--- the head of its category in month m, and how much of the manure is the line's: head times share
+-- the head of its category in month m, the sum of them over a year, and how much of the year's manure is the line's: that sum times its share
 abbrev pub headIn : LineOf → ℕ → ℕ
 headIn line m = headAt (line .book) (numbersOf line .category) m
 
+abbrev pub headsIn : LineOf → ℕ → ℕ
+headsIn line year = headsOf (line .book) year (numbersOf line .category)
+
 abbrev pub manureIn : LineOf → ℕ → ℕ
-manureIn line m = headIn line m * numbersOf line .share
+manureIn line year = headsIn line year * numbersOf line .share
 
 abbrev pub ManureDivided : LineOf → LineOf → LineOf → ℕ → Type 0
-ManureDivided whole first second m = manureIn first m + manureIn second m ≡ manureIn whole m
+ManureDivided whole first second year = manureIn first year + manureIn second year ≡ manureIn whole year
 
--- two ways to divide it: the heads, month by month, at one share; or the share, at the same heads
-module _ (whole first second : LineOf) (m : ℕ) where
+-- two ways to divide it: the heads, month by month of the year, at one share; or the share, at the same heads
+module _ (whole first second : LineOf) (year : ℕ) where
   pub heads-divided :
       numbersOf first .share ≡ numbersOf whole .share → numbersOf second .share ≡ numbersOf whole .share →
-      headIn first m + headIn second m ≡ headIn whole m → ManureDivided whole first second m
+      Each monthsInYear (λ m. let at = monthsBefore year + m in headIn first at + headIn second at ≡ headIn whole at) →
+      ManureDivided whole first second year
+  unfolding headsOf
   heads-divided first-share second-share heads =
-      rw (first-share, second-share, ← heads) (omega (arith, add-mul (headIn first m) (headIn second m) (numbersOf whole .share)))
+      let sums : headsIn first year + headsIn second year ≡ headsIn whole year =
+      sum-plus (λ m. headIn first (monthsBefore year + m)) (λ m. headIn second (monthsBefore year + m)) monthsInYear
+      ∙ sum-same _ _ monthsInYear heads in
+      rw (first-share, second-share, ← sums) (omega (arith, add-mul (headsIn first year) (headsIn second year) (numbersOf whole .share)))
 
   pub share-divided :
-      headIn first m ≡ headIn whole m → headIn second m ≡ headIn whole m →
-      numbersOf first .share + numbersOf second .share ≡ numbersOf whole .share → ManureDivided whole first second m
-  share-divided first-head second-head shares =
-      rw (first-head, second-head, ← shares) (omega (arith, mul-add (headIn whole m) (numbersOf first .share) (numbersOf second .share)))
+      headsIn first year ≡ headsIn whole year → headsIn second year ≡ headsIn whole year →
+      numbersOf first .share + numbersOf second .share ≡ numbersOf whole .share → ManureDivided whole first second year
+  share-divided first-heads second-heads shares =
+      rw (first-heads, second-heads, ← shares) (omega (arith, mul-add (headsIn whole year) (numbersOf first .share) (numbersOf second .share)))
 
 -- a line of the same kind of animal; its category and its share may be others
 pub record SameKind (part whole : LineOf) : Type 0 where
@@ -69,21 +78,21 @@ pub record SameMonth (part whole : LineOf) (m : ℕ) : Type 0 where
   pub drained : drainedOf (part .book) (part .line) m ≡ drainedOf (whole .book) (whole .line) m
 
 pub record SplitMonth (whole first second : LineOf) (m : ℕ) : Type 0 where
-  pub divided : ManureDivided whole first second m
+  pub divided : ManureDivided whole first second (yearAt m)
   pub first-month : SameMonth first whole m
   pub second-month : SameMonth second whole m
 
 -- Of what enters in two parts, each rounded down by itself, at most a gram is lost against the whole.
-pub share-first : (head solids mass share : ℕ) → head * solids * mass * share ≡ head * share * solids * mass
-share-first head solids mass share = rw (mul-right-comm (head * solids) mass share, mul-right-comm head solids share)
+pub share-first : (heads solids mass share : ℕ) → heads * solids * mass * share ≡ heads * share * solids * mass
+share-first heads solids mass share = rw (mul-right-comm (heads * solids) mass share, mul-right-comm heads solids share)
 
 pub entered-apart :
-    (solids mass days head share head-1 share-1 head-2 share-2 : ℕ) → head-1 * share-1 + head-2 * share-2 ≡ head * share →
-    (enteredOf head-1 solids mass share-1 days .0 + enteredOf head-2 solids mass share-2 days .0 ≤ enteredOf head solids mass share days .0) ×
-    (enteredOf head solids mass share days .0 ≤ enteredOf head-1 solids mass share-1 days .0 + enteredOf head-2 solids mass share-2 days .0 + 1)
+    (solids mass days heads share heads-1 share-1 heads-2 share-2 : ℕ) → heads-1 * share-1 + heads-2 * share-2 ≡ heads * share →
+    (enteredOf heads-1 solids mass share-1 days .0 + enteredOf heads-2 solids mass share-2 days .0 ≤ enteredOf heads solids mass share days .0) ×
+    (enteredOf heads solids mass share days .0 ≤ enteredOf heads-1 solids mass share-1 days .0 + enteredOf heads-2 solids mass share-2 days .0 + 1)
 unfolding enteredOf
-entered-apart solids mass days head share head-1 share-1 head-2 share-2 divided =
-    rw (share-first head solids mass share, share-first head-1 solids mass share-1, share-first head-2 solids mass share-2, ← divided)
+entered-apart solids mass days heads share heads-1 share-1 heads-2 share-2 divided =
+    rw (share-first heads solids mass share, share-first heads-1 solids mass share-1, share-first heads-2 solids mass share-2, ← divided)
     (simp add-mul (omega arith))
 
 module _ (whole first second : LineOf) (line : SplitLine whole first second) where
@@ -92,8 +101,10 @@ module _ (whole first second : LineOf) (line : SplitLine whole first second) whe
       Split (monthAt (whole .book) (whole .line) m) (monthAt (first .book) (first .line) m) (monthAt (second .book) (second .line) m)
   unfolding monthAt enteredAt factorAt
   split-month m now =
+      let year = yearAt m in
       let apart = entered-apart (numbersOf whole .solids) (numbersOf whole .mass) (daysAt (whole .book) m)
-      (headIn whole m) (numbersOf whole .share) (headIn first m) (numbersOf first .share) (headIn second m) (numbersOf second .share) (now .divided) in
+      (headsIn whole year) (numbersOf whole .share) (headsIn first year) (numbersOf first .share) (headsIn second year) (numbersOf second .share)
+      (now .divided) in
       let first-is = line .first-kind in
       let second-is = line .second-kind in
       rw (first-is .solids, first-is .mass, second-is .solids, second-is .mass, now .first-month .days, now .second-month .days)

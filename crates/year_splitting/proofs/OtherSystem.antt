@@ -11,16 +11,12 @@ use Rattle.units.specs.Grams.{density, potential, b0RuleOf}
 use Rattle.units.specs.declared.solids.Solids.{Solids}
 use Rattle.book_slots.specs.declared.Seen.the-variants.{Value}
 use Rattle.book_herd.specs.Herd.{systemOf}
-use Rattle.year_lines.specs.Lines.{anaerobic, headsOf, dailyOf, daysInYear, convertedOf}
+use Rattle.year_lines.specs.Lines.{anaerobic, dailyOf, daysInYear, convertedOf}
 use Rattle.year_lines.proofs.Parts.{LineOf}
 use Rattle.year_lines.proofs.BySystem.{other-is}
-use Rattle.year_splitting.proofs.Lines.{numbersOf, SameKind, share-first, baselineIn}
+use Rattle.year_splitting.proofs.Lines.{numbersOf, headsIn, ManureDivided, SameKind, share-first, baselineIn}
 use Rattle.year_splitting.proofs.Others.{lineAt}
 use Rattle.year_splitting.proofs.Filings.{OneFiling, netIn, net-within, differ}
-
--- the heads of a line's year, summed
-abbrev pub headsIn : LineOf → ℕ → ℕ
-headsIn line year = headsOf (line .book) year (numbersOf line .category)
 
 abbrev dailyIn : LineOf → ℕ → ℕ
 dailyIn line year = dailyOf (headsIn line year) (numbersOf line)
@@ -33,15 +29,14 @@ pub record SameSystem (part whole : LineOf) : Type 0 where
   pub kind : SameKind part whole
   pub conversion : numbersOf part .conversion ≡ numbersOf whole .conversion
 
--- two lines that divide a line's manure between them over a year: heads times share
+-- two lines that divide a line's manure of a year between them
 pub record SplitYear (whole first second : LineOf) (year : ℕ) : Type 0 where
   pub system : ℕ
   pub there : systemOf (whole .book) (whole .line) ≡ Value system
   pub no-lagoon : system ≡ anaerobic → ⊥
   pub first-system : SameSystem first whole
   pub second-system : SameSystem second whole
-  pub divided :
-      headsIn first year * numbersOf first .share + headsIn second year * numbersOf second .share ≡ headsIn whole year * numbersOf whole .share
+  pub divided : ManureDivided whole first second year
 
 baseline-is :
     (line : LineOf) (year system : ℕ) → systemOf (line .book) (line .line) ≡ Value system → (system ≡ anaerobic → ⊥) →
