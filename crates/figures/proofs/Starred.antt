@@ -1,9 +1,9 @@
--- The starred figures of 01 ("Figures to check"), in its order, on the definitions themselves: what enters, the lagoon's months, the factor, the B0 rule,
--- net and the meter's hour. Each is computed. Assumes nothing.
-use mathlib.Core.Bool.{Bool, true, false}
+-- The starred figures of 01 ("Figures to check"), in its order, on the definitions themselves: what enters, with 02's unequal heads (ii), the lagoon's months, the
+-- factor, the B0 rule, net and the meter's hour. Each is computed. Assumes nothing.
+use mathlib.Core.Bool.{Bool, true, false, cond}
 use mathlib.Core.Path.{_≡_, refl}
-use Prim.Native.Nat.{ℕ, _≤_, _<_}
-use lib.Dec.{lit<, lit≤}
+use Prim.Native.Nat.{ℕ, _*_, _≤_, _<_}
+use lib.Dec.{leb, lit<, lit≤}
 use lib.IntN.{pos, negℤ}
 use lib.Ieee.{Float, binary32, round}
 use mathlib.Core.List.{[], _∷_}
@@ -16,6 +16,7 @@ use Rattle.lagoon_factor.specs.Factor.{summedOf, ruledOf, factorOf}
 use Rattle.lagoon_month.specs.declared.Standing.{Standing}
 use Rattle.lagoon_month.specs.declared.Outcome.{Outcome}
 use Rattle.lagoon_month.specs.Month.{enteredOf, emptyOf, outcomeOf}
+use Rattle.year_months.specs.Series.{yearAt, overYear}
 use Rattle.meter_reading.specs.declared.Measure.the-variants.{Whole}
 use Rattle.meter_reading.specs.Exact.{isUpTo, timesDown, scaledOf, hundredthsOf}
 use Rattle.meter_state.specs.State.{readingOf}
@@ -25,9 +26,21 @@ use Rattle.meter_gaps.specs.Filling.{filled}
 use Rattle.meter_hour.specs.Hour.{recordedOf, hourAt, gramsIn, hourOf}
 use Rattle.meter_month.specs.Month.{gramsOf, destroyedOf, meteredOf}
 
--- 100 head, table solids 1000, mass 6000, share 10,000, in a month counted from January 2011
+-- table solids 1000, mass 6000, share 10,000, by the sum of a year's heads, in a month counted from January 2011
+abbrev pub herdOf : ℕ → ℕ → Solids
+herdOf heads month = enteredOf heads 1000 6000 10000 (daysOf 2011 1 month)
+
+-- the same by the head of each month
+abbrev pub herdBy : (ℕ → ℕ) → ℕ → Solids
+herdBy head month = herdOf (overYear (yearAt month) head) month
+
+-- 100 head in every month
 abbrev pub herd : ℕ → Solids
-herd month = enteredOf 100 1000 6000 10000 (daysOf 2011 1 month)
+herd month = herdBy (λ m. 100) month
+
+-- 100 head up to a month, and so many after it
+abbrev pub moved : ℕ → ℕ → ℕ → ℕ
+moved last after m = cond (leb m last) 100 after
 
 -- a month of that herd at 4.9 degrees
 abbrev pub at-4·9 : Standing → ℕ → Bool → Outcome
@@ -51,6 +64,9 @@ hour efficiency = meteredOf (nearest 100 1 ∷ []) (nearest 60 1 ∷ []) (0 ∷ 
 pub record Starred : Type 0 where
   pub enters-31-days : herd 1 ≡ solids 14880000
   pub enters-28-days : herd 2 ≡ solids 13440000
+  -- half the herd leaves after March 2011; another herd keeps 45 head after April 2012, its second year
+  pub january-2011-unequal : herdBy (moved 3 50) 1 ≡ solids 9300000
+  pub december-2012-unequal : herdBy (moved 16 45) 24 ≡ solids 9424000
   pub january-degraded : january false .degraded ≡ solids 1547520
   pub january-carried : january false .next .0 ≡ solids 13332480
   pub february-degraded : february false .degraded ≡ solids 2784337
@@ -70,12 +86,34 @@ pub record Starred : Type 0 where
   pub hour-at-9800 : hour 9800 ≡ 39984
   pub content-60·1 : hundredthsOf (nearest 601 10) ≡ Whole 6009
 
+-- What wrong readings would give for the two with unequal heads: the month's own count, twelve times; the average rounded down before it is multiplied; and
+-- for the second the heads of the first year. None is what the definitions give.
+pub record Misread : Type 0 where
+  pub january-own-count : herdOf (12 * 100) 1 ≡ solids 14880000
+  pub january-average-rounded : herdOf (12 * 62) 1 ≡ solids 9225600
+  pub december-own-count : herdOf (12 * 45) 24 ≡ solids 6696000
+  pub december-average-rounded : herdOf (12 * 63) 24 ≡ solids 9374400
+  pub december-first-year : herdOf (overYear 1 (moved 16 45)) 24 ≡ solids 14880000
+
+pub misread : Misread
+unfolding enteredOf daysOf goneOf lengthOf lengthsOf februaryOf leapOf sum
+misread =
+    record {
+      january-own-count = refl;
+      january-average-rounded = refl;
+      december-own-count = refl;
+      december-average-rounded = refl;
+      december-first-year = refl;
+    }
+
 pub starred : Starred
 unfolding enteredOf outcomeOf daysOf goneOf lengthOf lengthsOf februaryOf leapOf factorOf ruledOf summedOf denominator added subtracted b0RuleOf meteredOf destroyedOf gramsOf sum hourOf gramsIn amount hourAt recordedOf readingOf filled scaledOf isUpTo timesDown round
 starred =
     record {
       enters-31-days = refl;
       enters-28-days = refl;
+      january-2011-unequal = refl;
+      december-2012-unequal = refl;
       january-degraded = refl;
       january-carried = refl;
       february-degraded = refl;
