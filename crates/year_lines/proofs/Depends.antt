@@ -1,5 +1,5 @@
 -- A line's solids depend only on YR, its LN, its category's HD, TP and its own DR (01, "The lagoon month"): two books that have the same records there, for the
--- months through the year's end, have the same solids of the line, and so the same baseline of it, in that year.
+-- months through the year's end, have the same solids of the line, and so the same baseline of it, in that year. Of the heads each year's sum is enough (02, (ii)).
 -- Assumes nothing.
 use Prim.Native.Nat.{ℕ, _+_, _*_, _≤_}
 use mathlib.Core.Bool.{Bool, cond, not}
@@ -23,7 +23,7 @@ use Rattle.book.specs.Book.{recordAt, free}
 use Rattle.book_slots.proofs.Within.{number-slot}
 use Rattle.book_slots.specs.Field.{placeOf, bytesOf, seenAt, numberOf, seenOf, filledOf}
 use Rattle.book_slots.specs.Reads.{firstYearOf, firstMonthOf}
-use Rattle.book_herd.specs.Herd.{systemOf, lineOf, headOf, drainedOf}
+use Rattle.book_herd.specs.Herd.{systemOf, lineOf, drainedOf}
 use Rattle.book_herd.specs.declared.Line.{Line}
 use Rattle.book_slots.specs.declared.Seen.{Seen}
 use Rattle.book_slots.specs.declared.Seen.the-variants.{Nothing, Value}
@@ -73,7 +73,15 @@ pub record SameLine (one other : List ℕ) (line year : ℕ) : Type 0 where
   pub temperatures : Each (monthsThrough year) (λ m. Same one other tp (m ∷ []))
   pub drains : Each (monthsThrough year) (λ m. Same one other dr (line ∷ m ∷ []))
 
-module _ (one other : List ℕ) (line year : ℕ) (same : SameLine one other line year) where
+-- of the heads only each year's sum counts, and not how it is spread over the year's months
+pub record SameSums (one other : List ℕ) (line year : ℕ) : Type 0 where
+  pub start : Same one other yr []
+  pub numbers : Same one other ln (line ∷ [])
+  pub heads : Each year (λ y. headsOf one y (lineOf one line .category) ≡ headsOf other y (lineOf one line .category))
+  pub temperatures : Each (monthsThrough year) (λ m. Same one other tp (m ∷ []))
+  pub drains : Each (monthsThrough year) (λ m. Same one other dr (line ∷ m ∷ []))
+
+module _ (one other : List ℕ) (line year : ℕ) (same : SameSums one other line year) where
   same-line : lineOf one line ≡ lineOf other line
   same-line =
       let number = same-number one other ln (line ∷ []) (same .numbers) in
@@ -93,17 +101,8 @@ module _ (one other : List ℕ) (line year : ℕ) (same : SameLine one other lin
       ap (λ (s : Seen). daysOf (amountOf s) (amountOf (firstMonthOf one)) m) (same-seen one other yr [] (same .start) 0 (lit≤ tt)) ∙
       ap (λ (s : Seen). daysOf (amountOf (firstYearOf other)) (amountOf s) m) (same-seen one other yr [] (same .start) 1 (lit≤ tt))
 
-  pub same-head : (m : ℕ) → 1 ≤ m → m ≤ monthsThrough year → headAt one (lineOf one line .category) m ≡ headAt other (lineOf other line .category) m
-  unfolding headAt
-  same-head m low high =
-      ap amountOf (same-seen one other hd (lineOf one line .category ∷ m ∷ []) (same .heads m low high) 2 (lit≤ tt)) ∙
-      ap (λ (x : Line). amountOf (headOf other (x .category) m)) same-line
-
   same-heads : (y : ℕ) → 1 ≤ y → y ≤ year → headsOf one y (lineOf one line .category) ≡ headsOf other y (lineOf other line .category)
-  unfolding headsOf
-  same-heads y some within =
-      sum-same (λ m. headAt one (lineOf one line .category) (monthsBefore y + m)) (λ m. headAt other (lineOf other line .category) (monthsBefore y + m))
-      monthsInYear (λ m low high. same-head (monthsBefore y + m) (omega arith) (omega arith))
+  same-heads y some within = same .heads y some within ∙ ap (λ (x : Line). headsOf other y (x .category)) same-line
 
   module _ (m : ℕ) (low : 1 ≤ m) (high : m ≤ monthsThrough year) where
     same-entered : enteredAt one line m ≡ enteredAt other line m
@@ -121,7 +120,7 @@ module _ (one other : List ℕ) (line year : ℕ) (same : SameLine one other lin
         ap (λ (n : ℕ). factorBy (cond (filledOf other tp (m ∷ [])) (Tenths (signedOf n)) Unknown))
         (same-number one other tp (m ∷ []) (same .temperatures m low high) 2 (lit≤ tt))
 
-    pub same-month : monthAt one line m ≡ monthAt other line m
+    same-month : monthAt one line m ≡ monthAt other line m
     unfolding monthAt
     same-month =
         ap (λ (s : Solids). month s (factorAt one m) (drainedOf one line m)) same-entered ∙
@@ -129,13 +128,13 @@ module _ (one other : List ℕ) (line year : ℕ) (same : SameLine one other lin
         ap (month (enteredAt other line m) (factorAt other m)) (same-filled one other dr (line ∷ m ∷ []) (same .drains m low high))
 
   -- the solids of the line in the year
-  pub solids-depend : 1 ≤ year → yearOf (monthAt one line) year ≡ yearOf (monthAt other line) year
-  solids-depend low = same-year (monthAt one line) (monthAt other line) year low same-month
+  pub solids-by-sums : 1 ≤ year → yearOf (monthAt one line) year ≡ yearOf (monthAt other line) year
+  solids-by-sums low = same-year (monthAt one line) (monthAt other line) year low same-month
 
   -- and its part in the year's sums, whatever its system
-  pub line-depends : 1 ≤ year → lineIn one year line ≡ lineIn other year line
+  pub line-by-sums : 1 ≤ year → lineIn one year line ≡ lineIn other year line
   unfolding lineIn
-  line-depends low =
+  line-by-sums low =
       ap
       (λ (s : Seen). bySystem s (anaerobicOf (yearOf (monthAt one line) year) (lineOf one line .b0)) (otherOf (headsOf one year
       (lineOf one line .category)) (lineOf one line)))
@@ -143,7 +142,7 @@ module _ (one other : List ℕ) (line year : ℕ) (same : SameLine one other lin
       ap
       (λ (t : Totals). bySystem (systemOf other line) (anaerobicOf t (lineOf one line .b0)) (otherOf (headsOf one year (lineOf one line .category))
       (lineOf one line)))
-      (solids-depend low) ∙
+      (solids-by-sums low) ∙
       ap
       (λ (n : ℕ). bySystem (systemOf other line) (anaerobicOf (yearOf (monthAt other line) year) (lineOf one line .b0)) (otherOf n (lineOf one line)))
       (same-heads year low (omega arith)) ∙
@@ -151,3 +150,26 @@ module _ (one other : List ℕ) (line year : ℕ) (same : SameLine one other lin
       (λ (x : Line). bySystem (systemOf other line) (anaerobicOf (yearOf (monthAt other line) year) (x .b0)) (otherOf (headsOf other year
       (lineOf other line .category)) x))
       same-line
+
+-- the same heads, month by month, have the same sums: so a line's year depends on its own records alone
+module _ (one other : List ℕ) (line year : ℕ) (same : SameLine one other line year) where
+  same-head : (m : ℕ) → 1 ≤ m → m ≤ monthsThrough year → headAt one (lineOf one line .category) m ≡ headAt other (lineOf one line .category) m
+  unfolding headAt
+  same-head m low high = ap amountOf (same-seen one other hd (lineOf one line .category ∷ m ∷ []) (same .heads m low high) 2 (lit≤ tt))
+
+  same-sums : SameSums one other line year
+  unfolding headsOf
+  same-sums =
+      record {
+        start = same .start;
+        numbers = same .numbers;
+        heads = λ y some within. sum-same _ _ monthsInYear (λ m low high. same-head (monthsBefore y + m) (omega arith) (omega arith));
+        temperatures = same .temperatures;
+        drains = same .drains;
+      }
+
+  pub solids-depend : 1 ≤ year → yearOf (monthAt one line) year ≡ yearOf (monthAt other line) year
+  solids-depend = solids-by-sums one other line year same-sums
+
+  pub line-depends : 1 ≤ year → lineIn one year line ≡ lineIn other year line
+  line-depends = line-by-sums one other line year same-sums
