@@ -33,7 +33,6 @@ use Rattle.year_heads.proofs.Ranges.{heads-most}
 use Rattle.year_sums.specs.Asks.{allGrams}
 use Rattle.year_sums.specs.Sums.{anaerobicOf}
 use Rattle.year_lines.specs.Lines.{anaerobic, dailyOf, daysInYear, convertedOf, otherOf, bySystem, lineIn, sumsOver, all, enteredAt, monthAt}
-use Rattle.year_lines.specs.Asks.{LineRanged}
 use Rattle.year_sums.specs.declared.Sums.{Sums}
 use Rattle.year_lines.proofs.SameMonths.{same-run, standing-most}
 use Rattle.year_lines.proofs.Ranges.{factor-most, line-ranged, entry-most}
@@ -54,15 +53,12 @@ unfolding b0RuleOf
 b0-most degraded b0 few small = omega (arith, mul-le-mul few small)
 
 -- another line's products, one factor after the other
-module _ (heads : ℕ) (line : Line) (few : heads ≤ headsMost) (r : LineRanged line) where
-  pub daily-product : heads * line .solids * line .mass * line .share ≤ 480000000000000000
-  daily-product = four (few, r .solids, r .mass, r .share)
-
+module _ (heads : ℕ) (line : Line) (ends : (heads ≤ headsMost) × (line .solids ≤ 2000) × (line .mass ≤ 20000) × (line .share ≤ 10000)) (few : line .conversion ≤ 10000) where
   pub daily-most : dailyOf heads line * daysInYear ≤ 1460000000000
-  daily-most = omega (arith, daily-product)
+  daily-most = omega (arith, four ends)
 
   pub product-year : dailyOf heads line * daysInYear * line .conversion ≤ 14600000000000000
-  product-year = mul-le-mul daily-most (r .conversion)
+  product-year = mul-le-mul daily-most few
 
   pub converted-most : convertedOf heads line .0 ≤ 1460000000000
   unfolding convertedOf
@@ -161,7 +157,8 @@ module _ (book : List ℕ) (v : Valid book) (year : ℕ) (period : InPeriod year
       let y = year-most book v line there year period in
       let numbers = lineOf book line in
       let heads = headsOf book year (numbers .category) in
-      let c = converted-most heads numbers (heads-most book v year period (numbers .category) (r .category)) r in
+      let few = heads-most book v year period (numbers .category) (r .category) in
+      let c = converted-most heads numbers (few, r .solids, r .mass, r .share) (r .conversion) in
       by-most (systemOf book line) (anaerobicOf (yearOf (monthAt book line) year) (numbers .b0)) (otherOf heads numbers)
       (record {
         entered = omega (arith, y .entered);

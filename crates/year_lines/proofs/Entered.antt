@@ -1,9 +1,10 @@
 -- What a line enters in the months of a year, from what the code read: its numbers, the sum of the year's heads and the days. Assumes nothing.
-use Prim.Native.Nat.{ℕ, _+_, _-_, _≤_, _<_}
+use Prim.Native.Nat.{ℕ, _+_, _-_, _≤_}
 use mathlib.Core.List.{List}
-use mathlib.Core.Path.{ap, subst, sym, _≡_, _∙_}
+use mathlib.Core.Path.{ap, sym, _≡_, _∙_}
+use native.Mathlib.Decide.{decLt}
 use native.Mathlib.Omega.{arith}
-use lib.ListN.{getD}
+use lib.ListN.{getD, List·getD-eq-default}
 use Rattle.calendar.specs.Days.{monthsInYear}
 use Rattle.book_herd.specs.Herd.{lineOf}
 use Rattle.book_herd.specs.declared.Line.{Line}
@@ -12,14 +13,16 @@ use Rattle.year_months.specs.Series.{monthsBefore, yearAt, daysAt}
 use Rattle.year_months.proofs.Arrays.{array-at}
 use Rattle.year_months.proofs.Years.{own-year}
 use Rattle.year_heads.specs.Heads.{headsOf}
-use Rattle.year_lines.specs.Asks.{MonthsDays}
 use Rattle.year_lines.specs.Lines.{enteredBy, enteredAt}
 use Rattle.year_lines.proofs.Ranges.{days-most}
 
 -- the days of a book are a month's
-pub months-days : (book : List ℕ) (year : ℕ) {days : List ℕ} → HoldsYear ℕ 0 year (daysAt book) days → MonthsDays days
-months-days book year held =
-    record { long = held .long; each = λ i below. rw (array-at held i below) (days-most book (monthsBefore year + i + 1)) }
+pub days-held : (book : List ℕ) (year : ℕ) {days : List ℕ} → HoldsYear ℕ 0 year (daysAt book) days → (i : ℕ) → getD days i 0 ≤ 31
+days-held book year {days} held i =
+    elim (decLt i monthsInYear) [
+      | yes inside ↦ rw (array-at held i inside) (days-most book (monthsBefore year + i + 1))
+      | no past ↦ rw (List·getD-eq-default days 0 {n = i} (omega (arith, held .long))) (omega arith)
+    ]
 
 pub entered-held :
     (book : List ℕ) (line year : ℕ) → 1 ≤ year → (numbers : Line) (heads : ℕ) {days entered : List ℕ} → numbers ≡ lineOf book line →

@@ -3,24 +3,32 @@
 use Prim.Native.Nat.{ℕ, _≤_}
 use mathlib.Core.List.{List}
 use native.Mathlib.Omega.{arith}
-use lib.Dec.{lit≤}
 use Rattle.calendar.proofs.Range as calendar
 use Rattle.lagoon_factor.proofs.Right as factor
 use Rattle.lagoon_month.proofs.Entry.{entered-most}
 use Rattle.lagoon_month.specs.Asks.{enteredMost}
 use Rattle.lagoon_factor.specs.Rule.{million}
-use Rattle.record_table.specs.Table.{lines, months}
+use Rattle.record_table.specs.Table.{lines, categories, months}
 use Rattle.book.specs.Valid.{Valid}
 use Rattle.book_herd.proofs.Ranges.{numbers-in}
 use Rattle.book_slots.specs.Reads.{firstYearOf, firstMonthOf, temperatureOf}
 use Rattle.book_herd.specs.Herd.{lineOf}
+use Rattle.book_herd.specs.declared.Line.{Line}
 use Rattle.book_slots.specs.declared.Warmth.{Warmth}
 use Rattle.book_slots.specs.declared.Warmth.the-variants.{Unknown, Tenths}
 use Rattle.year_months.specs.Series.{amountOf, yearAt, daysAt, factorBy, factorAt}
 use Rattle.year_months.proofs.Years.{in-period}
 use Rattle.year_heads.proofs.Ranges.{heads-most}
 use Rattle.year_lines.specs.Lines.{enteredAt}
-use Rattle.year_lines.specs.Asks.{LineRanged}
+
+-- the upper ends of LN's ranges, and of the category's
+pub record LineRanged (line : Line) : Type 0 where
+  pub category : line .category ≤ categories
+  pub solids : line .solids ≤ 2000
+  pub mass : line .mass ≤ 20000
+  pub share : line .share ≤ 10000
+  pub b0 : line .b0 ≤ 100
+  pub conversion : line .conversion ≤ 10000
 
 factor-by-most : (warmth : Warmth) → factorBy warmth ≤ million
 factor-by-most Unknown = omega arith

@@ -1,6 +1,6 @@
 -- A month of a line (01, "The lagoon month"; 02, (ii)), and the lines of a year: solids of the anaerobic ones, and the baseline of all (01, "The year"; Equations
 -- 5.3 and 5.4).
-use Prim.Native.Nat.{ℕ, zero, suc, _+_, _*_, _/_}
+use Prim.Native.Nat.{ℕ, zero, suc, _*_, _/_}
 use mathlib.Core.{Bool.Bool, Bool.true, Bool.cond, List.List}
 use lib.Dec.{eqb}
 use Rattle.units.specs.{Grams.solids, Grams.shareOf, Grams.potential, Grams.b0RuleOf, declared.solids.Solids.Solids}

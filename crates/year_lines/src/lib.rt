@@ -3,7 +3,7 @@
 ghost use mathlib.Core.Path.{_≡_};
 ghost use mathlib.Core.Bool.{Bool, false};
 ghost use Prim.Native.Nat.{ℕ, _-_, _≤_};
-ghost use lib.ListN.{getD};
+ghost use lib.ListN.{length, getD};
 ghost use Rattle.calendar.specs.Days.{monthsInYear};
 ghost use Rattle.lagoon_month.specs.Asks.{headsMost};
 ghost use Rattle.lagoon_run.specs.Run.{runOf, yearOf};
@@ -14,7 +14,7 @@ ghost use Rattle.year_months.specs.Series.{monthsBefore, daysAt, factorAt};
 ghost use Rattle.year_months.specs.Asks.{InPeriod, Holds, HoldsYear};
 ghost use Rattle.year_heads.specs.Asks.{HoldsHeads};
 ghost use Rattle.year_lines.specs.Lines.{enteredBy, enteredAt, monthAt, otherOf, lineIn, all, sumsOf};
-ghost use Rattle.year_lines.specs.Asks.{Handed, Standings, LineRanged, MonthsDays};
+ghost use Rattle.year_lines.specs.Asks.{Handed, Standings};
 use book_herd::Line;
 use book_slots::Seen;
 use lagoon_month::Standing;
@@ -145,9 +145,8 @@ fn line_in(
 
 // What a line enters in grams, month by month of a year, by the sum of the year's heads.
 fn entries(numbers: Line, heads: u64, days: &[u64]) -> [u64; MONTHS_IN_YEAR]
-    requires { ⌜ LineRanged numbers ⌝ }
-    requires { ⌜ heads ≤ headsMost ⌝ }
-    requires { ⌜ MonthsDays (now days) ⌝ }
+    requires { ⌜ (heads ≤ headsMost) × (numbers .solids ≤ 2000) × (numbers .mass ≤ 20000) × (numbers .share ≤ 10000) ⌝ }
+    requires { ⌜ (length (now days) ≡ monthsInYear) × ((i : ℕ) → getD (now days) i 0 ≤ 31) ⌝ }
     ensures { λ r. ⌜ Holds ℕ 0 monthsInYear 0 monthsInYear (λ m. enteredBy heads numbers (getD (now (days .entry)) (m - 1) 0) .0) r ⌝ }
 {
     let mut entries = [0u64; MONTHS_IN_YEAR];
@@ -203,8 +202,8 @@ fn drains(book: &[u8], year: usize, line: usize) -> [bool; MONTHS_IN_YEAR]
 
 // A line of another system, by the sum of the year's heads: each division rounds down.
 fn other(numbers: Line, heads: u64) -> Sums
-    requires { ⌜ LineRanged numbers ⌝ }
-    requires { ⌜ heads ≤ headsMost ⌝ }
+    requires { ⌜ (heads ≤ headsMost) × (numbers .solids ≤ 2000) × (numbers .mass ≤ 20000) × (numbers .share ≤ 10000) ⌝ }
+    requires { ⌜ (numbers .b0 ≤ 100) × (numbers .conversion ≤ 10000) ⌝ }
     ensures { λ r. ⌜ r ≡ otherOf heads numbers ⌝ }
 {
     let daily = heads * numbers.solids * numbers.mass * numbers.share / DAILY_PARTS;

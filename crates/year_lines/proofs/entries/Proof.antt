@@ -28,13 +28,10 @@ mul-entered : tie.Need-mul-entered Inv-loop μ-loop
 mul-entered c = omega arith
 
 shared-slice-read-entered : tie.Need-shared-slice-read-entered Inv-loop μ-loop
-shared-slice-read-entered c = omega (arith, c .before .before .before .before .pre .1 .1 .long)
+shared-slice-read-entered c = omega (arith, c .before .before .before .before .pre .1 .0)
 
 entered-requires : tie.Need-entered-requires Inv-loop μ-loop
-entered-requires c κs =
-    let start = c .before .before .before .before in
-    let r = start .pre .0 in
-    ((start .pre .1 .0, r .solids, r .mass, r .share), start .pre .1 .1 .each _ (omega arith))
+entered-requires c κs = let start = c .before .before .before .before in (start .pre .0, start .pre .1 .1 _)
 
 grams-requires : tie.Need-grams-requires Inv-loop μ-loop
 grams-requires c κs = search needs

@@ -10,12 +10,11 @@ use Rattle.lagoon_month.specs.Asks.{headsMost}
 use Rattle.book_herd.proofs.Ranges.{category-some}
 use Rattle.year_heads.specs.Heads.{headsOf}
 use Rattle.year_heads.proofs.Ranges.{heads-at, heads-most}
-use Rattle.year_lines.specs.Asks.{LineRanged}
 use Rattle.year_lines.proofs.Bounds.{year-most}
 use Rattle.year_lines.proofs.BySystem.{absent-is, anaerobic-is, other-is}
 use Rattle.year_lines.proofs.Carrying.{handed-absent, handed-other, taken-up, year-handed}
-use Rattle.year_lines.proofs.Entered.{entered-held, months-days}
-use Rattle.year_lines.proofs.Ranges.{line-ranged}
+use Rattle.year_lines.proofs.Entered.{entered-held, days-held}
+use Rattle.year_lines.proofs.Ranges.{LineRanged, line-ranged}
 use Rattle.year_lines.proofs.line_in.Statement.{statement}
 use Rattle.year_lines.proofs.line_in.Tie as tie
 
@@ -85,7 +84,9 @@ entries-requires : tie.Need-entries-requires
 entries-requires c κs =
     let read = c .before .before in
     let start = begun read in
-    (ranged read, (few read, months-days (now (start .args .book)) (start .args .year) (start .pre .1 .1 .1 .1 .1 .0)))
+    let r = ranged read in
+    let days = start .pre .1 .1 .1 .1 .1 .0 in
+    ((few read, r .solids, r .mass, r .share), (days .long, days-held (now (start .args .book)) (start .args .year) days))
 
 slice-aggregate-solids : tie.Need-slice-aggregate-solids
 slice-aggregate-solids c = search needs
@@ -125,7 +126,10 @@ returns-2 c =
     )
 
 other-requires : tie.Need-other-requires
-other-requires c κs = let read = c .before .before in (ranged read, few read)
+other-requires c κs =
+    let read = c .before .before in
+    let r = ranged read in
+    ((few read, r .solids, r .mass, r .share), (r .b0, r .conversion))
 
 returns-3 : tie.Need-returns-3
 returns-3 c =

@@ -1,36 +1,27 @@
 -- `year_lines::other` meets its contract: each product is small.
 -- Assumes nothing.
-use Prim.Native.Nat.{_≤_}
 use mathlib.Core.Path.{_∙_}
 use native.Mathlib.Omega.{arith}
 use borrow.Author.Needs.{needs}
-use Rattle.lagoon_month.proofs.Entry.{two, three}
+use Rattle.lagoon_month.proofs.Entry.{two, three, four}
 use Rattle.year_lines.specs.Lines.{convertedOf}
-use Rattle.year_lines.proofs.Bounds.{converted-most, daily-most, daily-product, product-year}
+use Rattle.year_lines.proofs.Bounds.{converted-most, daily-most, product-year}
 use Rattle.year_lines.proofs.other.Statement.{statement}
 use Rattle.year_lines.proofs.other.Tie as tie
 
 mul-daily : tie.Need-mul-daily
-mul-daily c =
-    let start = c .before in
-    let r = start .pre .0 in
-    record { fits = omega (arith, two (start .pre .1, r .solids, r .mass, r .share)) }
+mul-daily c = record { fits = omega (arith, two (c .before .pre .0)) }
 
 mul-daily-2 : tie.Need-mul-daily-2
-mul-daily-2 c =
-    let start = c .before .before in
-    let r = start .pre .0 in
-    record { fits = omega (arith, three (start .pre .1, r .solids, r .mass, r .share)) }
+mul-daily-2 c = record { fits = omega (arith, three (c .before .before .pre .0)) }
 
 mul-daily-3 : tie.Need-mul-daily-3
-mul-daily-3 c =
-    let start = c .before .before .before in
-    record { fits = omega (arith, daily-product (start .args .heads) (start .args .numbers) (start .pre .1) (start .pre .0)) }
+mul-daily-3 c = record { fits = omega (arith, four (c .before .before .before .pre .0)) }
 
 mul-of-grams : tie.Need-mul-of-grams
 mul-of-grams c =
     let start = c .before .before .before in
-    record { fits = omega (arith, daily-most (start .args .heads) (start .args .numbers) (start .pre .1) (start .pre .0)) }
+    record { fits = omega (arith, daily-most (start .args .heads) (start .args .numbers) (start .pre .0) (start .pre .1 .1)) }
 
 of-grams-requires : tie.Need-of-grams-requires
 of-grams-requires c κs = search needs
@@ -38,7 +29,7 @@ of-grams-requires c κs = search needs
 share-requires : tie.Need-share-requires
 share-requires c κs =
     let start = c .before .before .before .before in (
-      rw (c .of-grams .ensures) (omega (arith, product-year (start .args .heads) (start .args .numbers) (start .pre .1) (start .pre .0))),
+      rw (c .of-grams .ensures) (omega (arith, product-year (start .args .heads) (start .args .numbers) (start .pre .0) (start .pre .1 .1))),
       omega arith,
     )
 
@@ -46,10 +37,10 @@ b0-rule-requires : tie.Need-b0-rule-requires
 unfolding convertedOf
 b0-rule-requires c κs =
     let start = c .before .before .before .before .before in (
-      start .pre .0 .b0,
+      start .pre .1 .0,
       omega arith,
       rw (c .share .ensures, c .before .of-grams .ensures)
-          (omega (arith, converted-most (start .args .heads) (start .args .numbers) (start .pre .1) (start .pre .0))),
+          (omega (arith, converted-most (start .args .heads) (start .args .numbers) (start .pre .0) (start .pre .1 .1))),
     )
 
 baseline-alone-requires : tie.Need-baseline-alone-requires

@@ -1,13 +1,13 @@
 -- `year_months::factors` meets its contract: after so many months passed the array holds their factors.
 -- Assumes nothing.
 use Prim.Native.Nat.{ℕ, _+_, _-_, _≤_}
-use mathlib.Core.Path.{ap, refl, _∙_, _≡_}
+use mathlib.Core.Path.{ap, refl, _∙_}
 use native.Mathlib.Omega.{arith}
 use borrow.Author.Needs.{needs}
 use Rattle.calendar.specs.Days.{monthsInYear}
 use Rattle.record_table.specs.Table.{months}
 use Rattle.year_months.specs.Asks.{Holds}
-use Rattle.year_months.specs.Series.{factorAt, factorBy, monthsBefore}
+use Rattle.year_months.specs.Series.{factorAt, factorBy}
 use Rattle.year_months.proofs.Arrays.{array-begins, array-more, array-full}
 use Rattle.year_months.proofs.factors.Statement.{statement}
 use Rattle.year_months.proofs.factors.Tie as tie
