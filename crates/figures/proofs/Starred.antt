@@ -3,7 +3,7 @@
 use mathlib.Core.Bool.{Bool, true, false, cond}
 use mathlib.Core.Path.{_≡_, refl}
 use Prim.Native.Nat.{ℕ, _*_, _≤_, _<_}
-use lib.Dec.{leb, lit<, lit≤}
+use lib.Dec.{eqb, leb, lit<, lit≤}
 use lib.IntN.{pos, negℤ}
 use lib.Ieee.{Float, binary32, round}
 use mathlib.Core.List.{[], _∷_}
@@ -105,6 +105,19 @@ misread =
       december-average-rounded = refl;
       december-first-year = refl;
     }
+
+-- Within a year it is the sum that counts: 1,200 head in January 2011 alone enter in December what 100 head in every month do. A year later they enter nothing
+-- there.
+abbrev pub once : ℕ → ℕ → ℕ
+once month m = cond (eqb m month) 1200 0
+
+pub record Spread : Type 0 where
+  pub in-january-2011 : herdBy (once 1) 12 ≡ herd 12
+  pub in-january-2012 : herdBy (once 13) 12 ≡ solids 0
+
+pub spread : Spread
+unfolding enteredOf daysOf goneOf lengthOf lengthsOf februaryOf leapOf sum
+spread = record { in-january-2011 = refl; in-january-2012 = refl }
 
 pub starred : Starred
 unfolding enteredOf outcomeOf daysOf goneOf lengthOf lengthsOf februaryOf leapOf factorOf ruledOf summedOf denominator added subtracted b0RuleOf meteredOf destroyedOf gramsOf sum hourOf gramsIn amount hourAt recordedOf readingOf filled scaledOf isUpTo timesDown round
