@@ -38,18 +38,19 @@ pub fn lagoon_months(book: &Book) -> Vec<LagoonMonth> {
     let mut rows = Vec::new();
     for (line_number, line) in anaerobic {
         let mut carried = 0;
-        let months = (1..).zip(needed.weather()).zip(needed.heads(line.category));
-        for ((month, weather), &head) in months {
-            let entered = lagoon::entered(line, head, weather.days);
-            let drained = book.drain(line_number, month).is_some();
-            let solids = lagoon::month(carried, entered, weather.factor, drained);
-            carried = solids.carried;
-            rows.push(LagoonMonth {
-                month,
-                temperature: book.temperature(month).unwrap_or_default(),
-                line: line_number,
-                solids,
-            });
+        for (year_heads, months) in needed.years(line.category) {
+            for month in months {
+                let entered = lagoon::entered(line, year_heads, month.days);
+                let drained = book.drain(line_number, month.number).is_some();
+                let solids = lagoon::month(carried, entered, month.factor, drained);
+                carried = solids.carried;
+                rows.push(LagoonMonth {
+                    month: month.number,
+                    temperature: book.temperature(month.number).unwrap_or_default(),
+                    line: line_number,
+                    solids,
+                });
+            }
         }
     }
     rows

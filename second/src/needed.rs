@@ -3,7 +3,7 @@
 use crate::book::Book;
 use crate::calendar::days_of_month;
 use crate::factor::factor;
-use crate::record::{FirstMonth, ProjectMonth, CATEGORIES, MONTHS};
+use crate::record::{FirstMonth, ProjectMonth, CATEGORIES, MONTHS, YEARS};
 use crate::refusal::{Reason, Refusal};
 
 /// The months that a year's own figures are taken over.
@@ -29,37 +29,39 @@ impl YearMonths {
     }
 }
 
-/// What the months have in common for all lines.
+/// What a month is for all lines.
 #[derive(Clone, Copy, Default)]
-pub struct Weather {
+pub struct Month {
+    pub number: u8,
     pub days: u8,
     pub factor: u32,
 }
 
-/// Everything from month 1 to the year's last month that a missing record
-/// could have kept away; entries past that month are not used.
+/// Everything from month 1 to the last month of the year asked for that a
+/// missing record could have kept away; entries past that month are not used.
 pub struct Needed {
-    pub months: YearMonths,
-    weather: [Weather; MONTHS],
-    heads: [[u32; MONTHS]; CATEGORIES],
+    asked: YearMonths,
+    months: [Month; MONTHS],
+    /// By category and year, the sum of the year's twelve heads.
+    heads: [[u32; YEARS]; CATEGORIES],
     pub projects: [ProjectMonth; 12],
 }
 
 impl Needed {
     /// Refusal 8, at the lowest month that lacks a record, or at 0.
-    pub fn gather(book: &Book, months: YearMonths) -> Result<Needed, Refusal> {
+    pub fn gather(book: &Book, asked: YearMonths) -> Result<Needed, Refusal> {
         let first_month = book.first_month().ok_or(lacking(0))?;
         let has_line = categories_with_a_line(book);
         if !has_line.contains(&true) {
             return Err(lacking(0));
         }
         let mut needed = Needed {
-            months,
-            weather: [Weather::default(); MONTHS],
-            heads: [[0; MONTHS]; CATEGORIES],
+            asked,
+            months: [Month::default(); MONTHS],
+            heads: [[0; YEARS]; CATEGORIES],
             projects: [ProjectMonth::default(); 12],
         };
-        for month in 1..=months.last {
+        for month in 1..=asked.last {
             needed
                 .gather_month(book, first_month, &has_line, month)
                 .ok_or(lacking(month))?;
@@ -75,32 +77,39 @@ impl Needed {
         month: u8,
     ) -> Option<()> {
         let index = usize::from(month) - 1;
-        self.weather[index] = Weather {
+        self.months[index] = Month {
+            number: month,
             days: days_of_month(first_month, month),
             factor: factor(book.temperature(month)?),
         };
         for (category, _) in (1..).zip(has_line).filter(|(_, has_line)| **has_line) {
-            self.heads[usize::from(category) - 1][index] = book.head(category, month)?;
+            self.heads[usize::from(category) - 1][year_index(month)] +=
+                book.head(category, month)?;
         }
-        if self.months.contain(month) {
+        if self.asked.contain(month) {
             self.projects[index % 12] = book.project(month)?;
         }
         Some(())
     }
 
-    pub fn weather(&self) -> &[Weather] {
-        &self.weather[..usize::from(self.months.last)]
+    /// The years from the first to the one asked for: the sum of the category's
+    /// heads in each, and its months.
+    pub fn years(&self, category: u8) -> impl Iterator<Item = (u32, &[Month])> {
+        let heads = self.heads[usize::from(category) - 1];
+        let months = &self.months[..usize::from(self.asked.last)];
+        heads.into_iter().zip(months.chunks(12))
     }
 
-    /// The category's heads from month 1 to the year's last.
-    pub fn heads(&self, category: u8) -> &[u32] {
-        &self.heads[usize::from(category) - 1][..usize::from(self.months.last)]
+    /// The sum of the category's heads in the year asked for.
+    pub fn year_heads(&self, category: u8) -> u32 {
+        self.heads[usize::from(category) - 1][year_index(self.asked.last)]
     }
+}
 
-    /// The category's heads in the year itself.
-    pub fn year_heads(&self, category: u8) -> &[u32] {
-        &self.heads(category)[usize::from(self.months.first) - 1..]
-    }
+/// Years are the book's own: the first has months 1 to 12, whatever month of
+/// the calendar YR starts with.
+fn year_index(month: u8) -> usize {
+    usize::from(month - 1) / 12
 }
 
 fn lacking(place: u8) -> Refusal {

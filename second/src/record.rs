@@ -11,6 +11,7 @@ pub const CATEGORIES: usize = 16;
 pub const DEVICES: usize = 4;
 /// The protocol's ten-year crediting period.
 pub const MONTHS: usize = 120;
+pub const YEARS: usize = MONTHS / 12;
 
 /// YR: the month that the book's months count from.
 #[derive(Clone, Copy, Debug, PartialEq, Eq)]

@@ -102,32 +102,36 @@ pub fn nearest_tonnes(grams: i128) -> i128 {
     (grams + GRAMS_PER_TONNE / 2 - 1).div_euclid(GRAMS_PER_TONNE)
 }
 
-/// Equation 5.3 from month 1, since the carry of earlier years counts; the
-/// sums are the year's own.
+/// Equation 5.3 from month 1, each month with its own year's heads: of the years
+/// before the one asked for the carry counts, and no other sum.
 fn anaerobic_year(book: &Book, needed: &Needed, line_number: u8, line: &Line) -> Solids {
     let mut sums = Solids::default();
-    let months = (1..).zip(needed.weather()).zip(needed.heads(line.category));
-    for ((number, weather), &head) in months {
-        let entered = lagoon::entered(line, head, weather.days);
-        let drained = book.drain(line_number, number).is_some();
-        let month = lagoon::month(sums.carried, entered, weather.factor, drained);
-        if needed.months.contain(number) {
-            sums.entered += month.entered;
-            sums.degraded += month.degraded;
-            sums.removed += month.removed;
+    for (year_heads, months) in needed.years(line.category) {
+        sums = Solids {
+            carried: sums.carried,
+            ..Solids::default()
+        };
+        for month in months {
+            let entered = lagoon::entered(line, year_heads, month.days);
+            let drained = book.drain(line_number, month.number).is_some();
+            let solids = lagoon::month(sums.carried, entered, month.factor, drained);
+            sums.entered += solids.entered;
+            sums.degraded += solids.degraded;
+            sums.removed += solids.removed;
+            sums.carried = solids.carried;
         }
-        sums.carried = month.carried;
     }
     sums
 }
 
 /// Equation 5.4 up to the conversion factor, in grams of solids; 365 days in
 /// leap years too.
-fn other_year(line: &Line, conversion_factor: u16, year_heads: &[u32]) -> u128 {
-    let heads: u128 = year_heads.iter().copied().map(u128::from).sum();
-    let grams_a_day =
-        heads * u128::from(line.table_solids) * u128::from(line.mass) * u128::from(line.share)
-            / 120_000_000;
+fn other_year(line: &Line, conversion_factor: u16, year_heads: u32) -> u128 {
+    let grams_a_day = u128::from(year_heads)
+        * u128::from(line.table_solids)
+        * u128::from(line.mass)
+        * u128::from(line.share)
+        / 120_000_000;
     grams_a_day * 365 * u128::from(conversion_factor) / 10_000
 }
 

@@ -15,17 +15,25 @@ const LINE: Line = Line {
     b0: 24,
 };
 
+/// 100 head in each of the year's months.
+const HEADS: u32 = 12 * 100;
+
 #[test]
 fn entered_in_31_and_28_days() {
-    assert_eq!(entered(&LINE, 100, 31), 14_880_000);
-    assert_eq!(entered(&LINE, 100, 28), 13_440_000);
+    assert_eq!(entered(&LINE, HEADS, 31), 14_880_000);
+    assert_eq!(entered(&LINE, HEADS, 28), 13_440_000);
 }
 
 #[test]
 fn january_and_february_at_4_9_degrees() {
-    let january = month(0, entered(&LINE, 100, 31), factor(49), false);
+    let january = month(0, entered(&LINE, HEADS, 31), factor(49), false);
     assert_eq!((january.degraded, january.carried), (1_547_520, 13_332_480));
-    let february = month(january.carried, entered(&LINE, 100, 28), factor(49), false);
+    let february = month(
+        january.carried,
+        entered(&LINE, HEADS, 28),
+        factor(49),
+        false,
+    );
     assert_eq!(
         (february.degraded, february.carried),
         (2_784_337, 23_988_143)
@@ -34,9 +42,14 @@ fn january_and_february_at_4_9_degrees() {
 
 #[test]
 fn a_drained_january_hands_on_nothing() {
-    let january = month(0, entered(&LINE, 100, 31), factor(49), true);
+    let january = month(0, entered(&LINE, HEADS, 31), factor(49), true);
     assert_eq!((january.removed, january.carried), (13_332_480, 0));
-    let february = month(january.carried, entered(&LINE, 100, 28), factor(49), false);
+    let february = month(
+        january.carried,
+        entered(&LINE, HEADS, 28),
+        factor(49),
+        false,
+    );
     assert_eq!(february.degraded, 1_397_760);
 }
 
@@ -48,9 +61,25 @@ fn entered_is_rounded_down() {
         share: 10_000,
         ..LINE
     };
-    // 40 x 31 x 8 x 10,000 is 99,200,000, and 41 the first above 10^8.
-    assert_eq!(entered(&tiny, 40, 31), 0);
-    assert_eq!(entered(&tiny, 41, 31), 1);
+    // 483 x 31 x 8 x 10,000 is 1,197,840,000, and 484 the first above 12 x 10^8.
+    assert_eq!(entered(&tiny, 483, 31), 0);
+    assert_eq!(entered(&tiny, 484, 31), 1);
+}
+
+#[test]
+fn a_sum_that_12_does_not_divide_is_rounded_with_the_rest() {
+    // 148,800 grams for each head in 31 days, of which a twelfth are 12,400.
+    for heads in [1, 11, 13, 23, 1_199, 1_201] {
+        assert_eq!(entered(&LINE, heads, 31), u64::from(heads) * 12_400);
+    }
+    let line = Line {
+        table_solids: 777,
+        mass: 4_321,
+        share: 3_333,
+        ..LINE
+    };
+    // 2,683,426.95; with an average of 99 head it would be 2,658,808.
+    assert_eq!(entered(&line, 1_199, 30), 2_683_426);
 }
 
 #[test]
@@ -60,7 +89,24 @@ fn entered_at_the_highest_values() {
         mass: 20_000,
         ..LINE
     };
-    assert_eq!(entered(&most, 100_000, 31), 99_200_000_000);
+    assert_eq!(entered(&most, 1_200_000, 31), 99_200_000_000);
+    // One head less in one month: 99,199,917,333 and a third.
+    assert_eq!(entered(&most, 1_199_999, 31), 99_199_917_333);
+}
+
+#[test]
+fn the_product_just_below_and_just_past_64_bits() {
+    let most = Line {
+        table_solids: 2_000,
+        mass: 20_000,
+        ..LINE
+    };
+    let of_one_head = 2_000 * 20_000 * 10_000 * 31 * 8;
+    assert!(185_955_u64.checked_mul(of_one_head).is_some());
+    assert!(185_956_u64.checked_mul(of_one_head).is_none());
+    assert_eq!(entered(&most, 185_955, 31), 15_372_280_000);
+    // 15,372,362,666 and two thirds.
+    assert_eq!(entered(&most, 185_956, 31), 15_372_362_666);
 }
 
 #[test]
@@ -73,7 +119,7 @@ fn products_past_64_bits_are_kept() {
     };
     let product = u128::from(u32::MAX) * u128::from(u16::MAX).pow(3) * 31 * 8;
     let whole = u128::from(entered(&widest, u32::MAX, 31));
-    assert_eq!(whole, product / 100_000_000);
+    assert_eq!(whole, product / 1_200_000_000);
     let wide = month(1 << 60, 5, 999_999, false);
     let degraded = ((1u128 << 60) + 5) * 999_999 / 1_000_000;
     assert_eq!(u128::from(wide.degraded), degraded);

@@ -68,6 +68,26 @@ fn the_months_of_a_year_sum_to_the_year() {
 }
 
 #[test]
+fn a_month_enters_with_the_average_of_its_years_heads() {
+    let mut records = plain((2011, 5), &[LINE_1], 24, 302);
+    for month in [5, 12, 13] {
+        records = without(&records, &[hd(1, month, 100)]);
+    }
+    records.extend([hd(1, 5, 0), hd(1, 12, 101), hd(1, 13, 700)]);
+    // 1,101 heads in the first year and 1,800 in the second, over 12.
+    for row in lagoon_months(&book_of(&records)) {
+        let heads = if row.month <= 12 { 1_101 } else { 1_800 };
+        let days = match row.month {
+            2 | 5 | 7 | 12 | 14 | 17 | 19 | 24 => 30,
+            10 => 29,
+            22 => 28,
+            _ => 31,
+        };
+        assert_eq!(row.solids.entered, heads * 400 * days, "{}", row.month);
+    }
+}
+
+#[test]
 fn a_line_that_is_not_anaerobic_has_no_months() {
     let other = Ln {
         system: 1,

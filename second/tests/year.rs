@@ -139,15 +139,97 @@ fn an_other_line_is_rounded_down_at_each_division() {
     assert_eq!(figures(&records, 1).baseline, 1250);
 }
 
+/// The book's heads of category 1 changed to what `head` says of each month.
+fn with_heads(mut records: Vec<Bytes>, last: u8, head: impl Fn(u8) -> u32) -> Vec<Bytes> {
+    for month in 1..=last {
+        records = without(&records, &[hd(1, month, 100)]);
+        records.push(hd(1, month, head(month)));
+    }
+    records
+}
+
 #[test]
 fn an_other_line_takes_the_heads_of_its_own_year() {
-    let mut records = plain((2011, 1), &[OTHER], 24, 0);
-    for month in 13..=24 {
-        records = without(&records, &[hd(1, month, 100)]);
-        records.push(hd(1, month, 200));
-    }
+    let heads = |month| if month <= 12 { 100 } else { 200 };
+    let records = with_heads(plain((2011, 1), &[OTHER], 24, 0), 24, heads);
     assert_eq!(figures(&records, 1).baseline, 11_258_352);
     assert_eq!(figures(&records, 2).baseline, 22_516_704);
+}
+
+#[test]
+fn a_years_heads_count_the_same_in_whichever_month_they_stand() {
+    let steady = plain((2011, 7), &[LINE_1], 12, 120);
+    let expected = figures(&steady, 1);
+    for only in 1..=12 {
+        let one_month = |month| if month == only { 12 * 100 } else { 0 };
+        let jumping = with_heads(steady.clone(), 12, one_month);
+        assert_eq!(figures(&jumping, 1), expected, "{only}");
+    }
+    let half_moved = |month| if month <= 6 { 150 } else { 50 };
+    assert_eq!(figures(&with_heads(steady, 12, half_moved), 1), expected);
+}
+
+#[test]
+fn a_month_enters_with_the_heads_of_its_own_year_of_the_book() {
+    // From July 2011 on: the book's second year starts in July 2012.
+    let heads = |month| if month <= 12 { 100 } else { 300 };
+    let records = with_heads(plain((2011, 7), &[LINE_1], 36, 302), 36, heads);
+    let (a_day, days_with_a_leap_day, days) = (480_000, 366, 365);
+    let entered = |number| figures(&records, number).solids.entered;
+    assert_eq!(entered(1), days_with_a_leap_day * a_day);
+    assert_eq!(entered(2), days * 3 * a_day);
+    assert_eq!(entered(3), days * 3 * a_day);
+}
+
+#[test]
+fn the_carry_of_an_earlier_year_was_entered_with_that_years_heads() {
+    // Hot but for December 2011 and January 2012, which are at 4.9 degrees.
+    let mut records = plain((2011, 1), &[LINE_1], 24, 302);
+    for month in [12, 13] {
+        records = without(&records, &[tp(month, 302)]);
+        records.push(tp(month, 49));
+    }
+    records.push(dr(1, 13));
+    let records = with_heads(records, 24, |month| match month {
+        6 => 12 * 100,
+        18 => 12 * 300,
+        _ => 0,
+    });
+    let first = figures(&records, 1).solids;
+    assert_eq!((first.entered, first.carried), (175_200_000, 13_332_480));
+    // Of 13,332,480 + 44,640,000 in January 0.104 degrade, 6,029,137.9.
+    let second = figures(&records, 2).solids;
+    assert_eq!(second.entered, 366 * 3 * 480_000);
+    assert_eq!((second.removed, second.carried), (51_943_343, 0));
+}
+
+#[test]
+fn both_systems_have_the_same_sum_of_heads() {
+    let anaerobic = Ln {
+        share: 5_000,
+        ..LINE_1
+    };
+    let other = Ln {
+        share: 5_000,
+        ..OTHER
+    };
+    let steady = plain((2011, 1), &[anaerobic, other], 12, 302);
+    let expected = figures(&steady, 1);
+    let jumping = with_heads(steady, 12, |month| if month == 12 { 12 * 100 } else { 0 });
+    assert_eq!(figures(&jumping, 1), expected);
+}
+
+#[test]
+fn a_line_has_the_heads_of_its_own_category() {
+    let second_category = Ln {
+        line: 2,
+        category: 2,
+        ..LINE_1
+    };
+    let records = plain((2011, 1), &[LINE_1, second_category], 12, 302);
+    let records = with_heads(records, 12, |month| u32::from(month == 3));
+    // 1,200 heads of category 2 and one of category 1, at 400 grams a day.
+    assert_eq!(figures(&records, 1).solids.entered, 365 * 400 * 1_201);
 }
 
 #[test]
@@ -231,14 +313,14 @@ fn other_lines_have_no_solids_and_their_drains_do_nothing() {
 // Worked out apart from this crate, by exact fractions.
 const MIXED_YEAR_1: &str = "\
 year 1
-entered 299383877 degraded 216780307 removed 30129507 carried 52474063
-baseline 630007554 project 7800000 metered 1474200000
-net 621 credited 621";
+entered 299422841 degraded 222753368 removed 34318895 carried 42350578
+baseline 645576331 project 7800000 metered 1474200000
+net 637 credited 637";
 const MIXED_YEAR_2: &str = "\
 year 2
-entered 469275748 degraded 366597901 removed 102745297 carried 52406613
-baseline 1113659635 project 22200000 metered 4195800000
-net 1088 credited 1088";
+entered 469256267 degraded 368712073 removed 96840811 carried 46053961
+baseline 1120354713 project 22200000 metered 4195800000
+net 1095 credited 1095";
 
 #[test]
 fn two_years_of_mixed_lines() {
