@@ -7,6 +7,7 @@ mod edges;
 mod figures;
 mod floats;
 mod gaps;
+mod heads;
 mod lacking;
 mod livestock;
 mod month;
@@ -116,6 +117,7 @@ pub fn groups(root: &Path, farm: &Path) -> std::io::Result<Vec<Group>> {
         lacking::lacking(),
         lacking::shares(),
         livestock::livestock(),
+        heads::heads(),
         books::keys(),
         books::calendar(),
         books::temperatures(),

@@ -2,6 +2,8 @@
 //! line of each system, two lines in one category, lines by livestock, a lagoon
 //! that is drained.
 
+use std::ops::RangeInclusive;
+
 use crate::book::{record, Record, DR, HD, LD, LN, MT, PE, TP, YR};
 
 /// Line 1 and 3 are anaerobic, of category 1; line 2 is another system's, of category 2.
@@ -93,21 +95,15 @@ pub fn and(mut records: Vec<Record>, more: &[Record]) -> Vec<Record> {
     records
 }
 
-/// A book of one line over so many months, all at one temperature: what
-/// enters, month by month, is what its heads say.
+/// A book of one line over so many months.
 pub struct Single {
     pub first: [i64; 2],
     pub line: [i64; 8],
     pub months: i64,
-    pub tenths: i64,
 }
 
 /// Paper 01's line: 100 head of it enter 480,000 grams a day.
 pub const PAPER_LINE: [i64; 8] = [1, 0, 1, 1_000, 6_000, 10_000, 24, 0];
-
-/// So many head of this line enter a million grams in a month of 31 days.
-const MILLION_LINE: [i64; 8] = [1, 0, 1, 74, 100, 10_000, 24, 0];
-const MILLION_HEAD: i64 = 5_449;
 
 impl Single {
     pub fn paper(months: i64) -> Single {
@@ -115,20 +111,21 @@ impl Single {
             first: [2011, 1],
             line: PAPER_LINE,
             months,
-            tenths: 302,
         }
     }
 
-    /// With these heads, and of the project what `project` says.
+    /// With the head, the temperature and the project's figures that these say
+    /// of each month.
     pub fn book(
         &self,
         head: impl Fn(i64) -> i64,
+        tenths: impl Fn(i64) -> i64,
         project: impl Fn(i64) -> [i64; 3],
     ) -> Vec<Record> {
         let mut records = vec![record(YR, &self.first), record(LN, &self.line)];
         for month in 1..=self.months {
             records.push(record(HD, &[self.line[2], month, head(month)]));
-            records.push(record(TP, &[month, self.tenths]));
+            records.push(record(TP, &[month, tenths(month)]));
             let [methane, baseline, co2] = project(month);
             records.push(record(PE, &[month, methane, baseline, co2]));
         }
@@ -136,21 +133,47 @@ impl Single {
     }
 }
 
-/// A million grams enter in January 2011 and nothing after it, all at one
-/// temperature, with these figures of the project in month 3.
-pub fn million(tenths: i64, project: [i64; 3]) -> Vec<Record> {
-    let farm = Single {
-        line: MILLION_LINE,
-        tenths,
-        ..Single::paper(12)
-    };
-    farm.book(
-        |month| if month == 1 { MILLION_HEAD } else { 0 },
-        |month| if month == 3 { project } else { [0; 3] },
-    )
+/// The same head, or the same temperature, in every month.
+pub fn steady(value: i64) -> impl Fn(i64) -> i64 {
+    move |_month| value
+}
+
+/// From 30.2 degrees on all that a lagoon has degrades, and at 15.1 some of it
+/// is carried on.
+pub const HOT: i64 = 302;
+pub const CARRYING: i64 = 151;
+
+/// These months are at one temperature, and all others are hot: so what is
+/// removed or carried on is theirs alone.
+pub fn hot_but(months: RangeInclusive<i64>, tenths: i64) -> impl Fn(i64) -> i64 {
+    move |month| if months.contains(&month) { tenths } else { HOT }
 }
 
 /// Nothing entered for a project.
 pub fn nothing(_month: i64) -> [i64; 3] {
     [0; 3]
+}
+
+/// The first month of the year that has the grams of `million`.
+pub const MILLION_MONTH: i64 = 13;
+
+/// So many head of this line enter 1,116,071 grams in December 2011, of which
+/// 4.9 degrees leave a million.
+const MILLION_LINE: [i64; 8] = [1, 0, 1, 780, 96, 10_000, 24, 0];
+const MILLION_HEAD: i64 = 601;
+
+/// A million grams are carried into 2012, the book's second year, in which
+/// nothing enters: all at one temperature, with these figures of the project
+/// in March.
+pub fn million(tenths: i64, project: [i64; 3]) -> Vec<Record> {
+    let farm = Single {
+        line: MILLION_LINE,
+        ..Single::paper(24)
+    };
+    let heads = |month| if month <= 12 { MILLION_HEAD } else { 0 };
+    let in_2011 = hot_but(12..=12, 49);
+    let temperatures = |month| if month <= 12 { in_2011(month) } else { tenths };
+    let march = MILLION_MONTH + 2;
+    let projects = |month| if month == march { project } else { [0; 3] };
+    farm.book(heads, temperatures, projects)
 }

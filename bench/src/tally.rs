@@ -14,7 +14,7 @@ const LEAST_REFUSED: [(Program, u64, usize, usize); 11] = [
     (Program::Years, 4, 600, 9),
     (Program::Years, 5, 400, 1),
     (Program::Years, 7, 120, 16),
-    (Program::Years, 8, 1_100, 50),
+    (Program::Years, 8, 1_500, 50),
     (Program::Month, 2, 40, 1),
     (Program::Month, 4, 25, 1),
     (Program::Month, 10, 200, 1),
@@ -23,13 +23,13 @@ const LEAST_REFUSED: [(Program, u64, usize, usize); 11] = [
 
 /// Of the stated years how many there have to be of each kind.
 const LEAST_YEARS: [(&str, usize); 7] = [
-    ("in all", 3_000),
-    ("tenth years", 180),
+    ("in all", 4_000),
+    ("tenth years", 200),
     ("with modelled the lesser", 750),
-    ("with metered the lesser", 2_000),
+    ("with metered the lesser", 3_200),
     ("with net below 0", 450),
-    ("with solids removed", 1_200),
-    ("with solids carried on", 1_200),
+    ("with solids removed", 1_300),
+    ("with solids carried on", 3_200),
 ];
 
 #[derive(Default)]

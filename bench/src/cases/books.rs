@@ -6,7 +6,8 @@ use crate::book::{
     record, whole, Extent, Most, Record, CATEGORIES, DEVICES, DR, LINES, LN, MONTHS,
 };
 use crate::book::{HD, MT, PE, TP, YR};
-use crate::farm::{self, and, million, nothing, Single};
+use crate::farm::{self, and, hot_but, million, nothing, steady, Single};
+use crate::farm::{CARRYING, HOT, MILLION_MONTH};
 use crate::random::Random;
 use crate::streams::{joined, stream};
 
@@ -17,10 +18,10 @@ pub fn keys() -> Group {
         let category = (line * 5) % CATEGORIES + 1;
         let farm = Single {
             line: [line, 0, category, 811 + line, 6_003, 9_000, 24, 0],
-            tenths: 151,
             ..Single::paper(12)
         };
-        let book = farm.book(|month| farm::head(category, month), nothing);
+        let heads = |month| farm::head(category, month);
+        let book = farm.book(heads, steady(CARRYING), nothing);
         let drained = [line, line, line % LINES + 1, category];
         let months = [3, 8, 5, 10];
         let drains: Vec<Record> = drained
@@ -35,7 +36,8 @@ pub fn keys() -> Group {
     }
     for device in 1..=DEVICES {
         for month in 1..=12 {
-            let book = Single::paper(12).book(|month| farm::head(1, month), nothing);
+            let heads = |month| farm::head(1, month);
+            let book = Single::paper(12).book(heads, steady(HOT), nothing);
             group.book(
                 format!("device {device} in month {month}"),
                 &and(
@@ -48,8 +50,9 @@ pub fn keys() -> Group {
     group
 }
 
-/// Ten years from each first year, and a single month from each first month:
-/// the heads differ from month to month, so that each month's days show.
+/// Ten years from each first year, at a temperature at which it shows which
+/// month has a day more: what enters earlier has longer to degrade. And a single
+/// month from each first month, which is drained, while the others leave nothing.
 pub fn calendar() -> Group {
     let mut group = Group::new("the calendar", 174, 174, 40);
     let heads = |month: i64| 100 + month * 37 % 101;
@@ -60,7 +63,7 @@ pub fn calendar() -> Group {
         };
         group.book(
             format!("ten years from month {first} of {year}"),
-            &farm.book(heads, nothing),
+            &farm.book(heads, steady(CARRYING), nothing),
         );
     };
     for year in 2000..=2089 {
@@ -77,10 +80,10 @@ pub fn calendar() -> Group {
                 first: [year, first],
                 ..Single::paper(12)
             };
-            let head = |month| if month == 1 { 100 } else { 0 };
+            let book = farm.book(steady(100), hot_but(1..=1, 49), nothing);
             group.book(
                 format!("the days of month {first} of {year}"),
-                &farm.book(head, nothing),
+                &and(book, &[record(DR, &[1, 1])]),
             );
         }
     }
@@ -104,7 +107,7 @@ pub fn temperatures() -> Group {
         let book = million(tenths, [0; 3]);
         group.book(
             format!("a million grams at {tenths}"),
-            &and(book, &[record(DR, &[1, 1])]),
+            &and(book, &[record(DR, &[1, MILLION_MONTH])]),
         );
     }
     group
@@ -142,10 +145,10 @@ pub fn tonnes() -> Group {
     // 3,427,200 grams of baseline are 21 times 163,200.
     for destroyed in [0, 163_190, 163_199, 163_200, 163_201, 163_210, 1_000_000] {
         for methane in [0, 1, 3_427, 3_428, 10_000] {
-            let book = million(302, [methane, 73, 0]);
+            let book = million(HOT, [methane, 73, 0]);
             group.book(
                 format!("destroyed {destroyed}, project methane {methane}"),
-                &and(book, &[record(MT, &[7, 2, destroyed])]),
+                &and(book, &[record(MT, &[MILLION_MONTH + 6, 2, destroyed])]),
             );
         }
     }
@@ -158,10 +161,11 @@ fn book_of_total(total: i64) -> Vec<Record> {
     let destroyed = (total * 381).rem_euclid(1_000);
     let kilograms = (total - 21 * destroyed) / 1_000;
     let figures = [0, kilograms.max(0), (-kilograms).max(0)];
-    and(million(302, figures), &[record(MT, &[12, 1, destroyed])])
+    let last = MILLION_MONTH + 11;
+    and(million(HOT, figures), &[record(MT, &[last, 1, destroyed])])
 }
 
-/// Books of so few heads and so little mass that every rounding shows.
+/// Books of few heads, and of small figures of the project and the meters.
 pub fn small() -> Group {
     let mut group = Group::new("small books", 120, 105, 105);
     for case in 0..120 {

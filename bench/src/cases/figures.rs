@@ -3,10 +3,10 @@
 
 use super::{Group, Program};
 use crate::book::{record, Record, DR, HD, MT, PE, TP};
-use crate::farm::{and, million, nothing, Single};
+use crate::farm::{and, hot_but, million, nothing, steady, Single, HOT, MILLION_MONTH};
 use crate::hours::{Hours, NEITHER, NO_FLOW};
 
-const WORKED: &str = "\
+pub(super) const WORKED: &str = "\
 year 1
 entered 175200000 degraded 175200000 removed 0 carried 0
 baseline 600445440 project 12000000 metered 504000000
@@ -24,9 +24,9 @@ pub fn figures() -> Group {
     group
 }
 
-/// The worked example over so many months, with so many head.
-fn worked_book(months: i64, head: i64) -> Vec<Record> {
-    let book = Single::paper(months).book(|_| head, |_| [1_000, 0, 500]);
+/// The worked example over so many months, with these heads.
+pub(super) fn worked_book(months: i64, head: impl Fn(i64) -> i64) -> Vec<Record> {
+    let book = Single::paper(months).book(head, steady(HOT), |_| [1_000, 0, 500]);
     let destroyed: Vec<Record> = (1..=months)
         .map(|month| record(MT, &[month, 1, 2_000_000]))
         .collect();
@@ -35,7 +35,7 @@ fn worked_book(months: i64, head: i64) -> Vec<Record> {
 
 fn worked(group: &mut Group) {
     group
-        .book("the worked example", &worked_book(12, 100))
+        .book("the worked example", &worked_book(12, steady(100)))
         .prints(WORKED);
     group
         .add(Program::Years, "empty input", Vec::new())
@@ -45,15 +45,15 @@ fn worked(group: &mut Group) {
 /// The ends of heads and months.
 fn ends(group: &mut Group) {
     group
-        .book("head 100,000", &worked_book(12, 100_000))
+        .book("head 100,000", &worked_book(12, steady(100_000)))
         .states("year", 1)
         .states("entered", 175_200_000_000);
     group
-        .book("head 100,001", &worked_book(12, 100_001))
+        .book("head 100,001", &worked_book(12, steady(100_001)))
         .prints("refused 4 at 4\n");
     // 2020, the tenth year from 2011, has 366 days at 480,000 grams.
     group
-        .book("month 120", &worked_book(120, 100))
+        .book("month 120", &worked_book(120, steady(100)))
         .states("year", 10)
         .states("entered", 366 * 480_000);
     for (month, taken) in [(120, true), (121, false)] {
@@ -65,7 +65,7 @@ fn ends(group: &mut Group) {
             (MT, vec![month, 1, 0], 2),
         ];
         for (row, values, place) in records {
-            let book = and(worked_book(12, 100), &[record(row, &values)]);
+            let book = and(worked_book(12, steady(100)), &[record(row, &values)]);
             let text = if taken {
                 WORKED.to_string()
             } else {
@@ -78,44 +78,56 @@ fn ends(group: &mut Group) {
     }
 }
 
-/// What January and February of 2011 enter, degrade, hand on and remove.
+/// What January and February of 2011 enter, degrade, hand on and remove. The
+/// year's other months are hot: what they enter degrades, and they hand on
+/// nothing.
 fn solids(group: &mut Group) {
-    for (days, first, entered) in [(31, 1, 14_880_000), (28, 2, 13_440_000)] {
+    const YEAR_ENTERED: i64 = 365 * 480_000;
+    const JANUARY_ENTERED: i64 = 14_880_000;
+    const FEBRUARY_ENTERED: i64 = 13_440_000;
+    // The book's first month, which is drained: what it enters is what it
+    // degrades and what is removed.
+    for (days, first, entered, degraded) in [
+        (31, 1, JANUARY_ENTERED, 1_547_520),
+        (28, 2, FEBRUARY_ENTERED, 1_397_760),
+    ] {
         let farm = Single {
             first: [2011, first],
             ..Single::paper(12)
         };
+        let book = farm.book(steady(100), hot_but(1..=1, 49), nothing);
         group
-            .book(
-                format!("{days} days"),
-                &farm.book(|month| if month == 1 { 100 } else { 0 }, nothing),
-            )
-            .states("entered", entered);
+            .book(format!("{days} days"), &and(book, &[record(DR, &[1, 1])]))
+            .states("degraded", YEAR_ENTERED - entered + degraded)
+            .states("removed", entered - degraded);
     }
-    // January is the last month but `after`, so that nothing degrades later.
+    // January is the last month but `after`.
     let january = |after: i64| Single {
         first: [2010, 2 + after],
-        tenths: 49,
         ..Single::paper(12)
     };
-    let from = |month: i64| move |this: i64| if this >= month { 100 } else { 0 };
+    let others = YEAR_ENTERED - JANUARY_ENTERED;
     group
-        .book("January at 4.9", &january(0).book(from(12), nothing))
-        .states("degraded", 1_547_520)
+        .book(
+            "January at 4.9",
+            &january(0).book(steady(100), hot_but(12..=12, 49), nothing),
+        )
+        .states("degraded", others + 1_547_520)
         .states("carried", 13_332_480);
-    let both = january(1).book(from(11), nothing);
+    let others = others - FEBRUARY_ENTERED;
+    let both = january(1).book(steady(100), hot_but(11..=12, 49), nothing);
     group
         .book("February after it", &both)
-        .states("degraded", 1_547_520 + 2_784_337)
+        .states("degraded", others + 1_547_520 + 2_784_337)
         .states("carried", 23_988_143);
     group
         .book("January drained", &and(both, &[record(DR, &[1, 11])]))
         .states("removed", 13_332_480)
-        .states("degraded", 1_547_520 + 1_397_760);
+        .states("degraded", others + 1_547_520 + 1_397_760);
 }
 
-/// A million grams that enter in one month, which is then drained, degrade by
-/// the factor itself.
+/// A million grams in a month that is then drained degrade by the factor
+/// itself.
 fn factors(group: &mut Group) {
     let factors = [
         (49, 104_000, 104_000),
@@ -128,10 +140,11 @@ fn factors(group: &mut Group) {
         let book = million(tenths, [0; 3]);
         let case = group.book(
             format!("the factor at {tenths} tenths"),
-            &and(book, &[record(DR, &[1, 1])]),
+            &and(book, &[record(DR, &[1, MILLION_MONTH])]),
         );
-        case.states("entered", 1_000_000)
-            .between("degraded", low, high);
+        case.states("entered", 0)
+            .between("degraded", low, high)
+            .between("removed", 1_000_000 - high, 1_000_000 - low);
         if low == 1_000_000 {
             case.states("baseline", 3_427_200);
         }

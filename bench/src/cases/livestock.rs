@@ -3,7 +3,7 @@
 
 use super::Group;
 use crate::book::{record, Record, BY_STATE, HD, LD, LIVESTOCK, LN, STATES};
-use crate::farm::{self, and, farm, nothing, Single};
+use crate::farm::{self, and, farm, nothing, steady, Single, HOT};
 
 const FIRST_LINE: i64 = 1;
 /// A line that the farm does not have.
@@ -21,7 +21,7 @@ pub fn livestock() -> Group {
 
 /// Paper 01's worked year with a line of this livestock in place of its LN.
 fn book_of(livestock: i64, state: i64) -> Vec<Record> {
-    let mut book = Single::paper(12).book(|_| 100, nothing);
+    let mut book = Single::paper(12).book(steady(100), steady(HOT), nothing);
     let line = record(LN, &farm::PAPER_LINE);
     let place = book.iter().position(|record| *record == line);
     book[place.expect("the book has a line")] = by_livestock(FIRST_LINE, livestock, state);
