@@ -11,13 +11,14 @@ use crate::farm::{and, hot_but, nothing, steady, Single, CARRYING};
 const GRAMS_A_DAY: i64 = 400;
 
 pub fn heads() -> Group {
-    let mut group = Group::new("heads that jump", 395, 395, 270);
+    let mut group = Group::new("heads that jump", 398, 398, 270);
     within_a_year(&mut group);
     beside_a_years_end(&mut group);
     another_sum_each_year(&mut group);
     not_divided_by_12(&mut group);
     two_categories(&mut group);
     largest(&mut group);
+    short_of_a_gram(&mut group);
     drained(&mut group);
     group
 }
@@ -164,19 +165,22 @@ fn two_categories(group: &mut Group) {
     }
 }
 
+const MOST_HEAD: i64 = 100_000;
+
+/// So many heads in each year, in its first months as many as a month may have.
+fn each_year(sum: i64) -> impl Fn(i64) -> i64 {
+    move |month| (sum - MOST_HEAD * ((month - 1) % 12)).clamp(0, MOST_HEAD)
+}
+
 /// Heads at their highest, with which the product passes 64 bits, and the sums
 /// beside those with which it first passes 63 or 64 in a month of some days.
 fn largest(group: &mut Group) {
-    const MOST_HEAD: i64 = 100_000;
-    let line = [1, 0, 1, 2_000, 20_000, 10_000, 100, 0];
     let product_of_a_head = |days: u128| 2_000 * 20_000 * 10_000 * days * 8;
-    // 2012 has a month of each number of days.
-    let farm = Single {
-        first: [2012, 1],
-        line,
-        ..Single::paper(24)
-    };
     let entered_a_day = 3_200_000_000;
+    let farm = Single {
+        line: [1, 0, 1, 2_000, 20_000, 10_000, 100, 0],
+        ..every_number_of_days()
+    };
     group
         .book(
             "the most heads",
@@ -199,16 +203,35 @@ fn largest(group: &mut Group) {
         for days in 28..=31 {
             let most = (((1_u128 << bits) - 1) / product_of_a_head(days)) as i64;
             for (side, sum) in [("within", most), ("past", most + 1)] {
-                let heads = |month: i64| {
-                    let in_months_before = MOST_HEAD * ((month - 1) % 12);
-                    (sum - in_months_before).clamp(0, MOST_HEAD)
-                };
                 group.book(
                     format!("{sum} heads, {side} {bits} bits in a month of {days} days"),
-                    &farm.book(heads, steady(CARRYING), nothing),
+                    &farm.book(each_year(sum), steady(CARRYING), nothing),
                 );
             }
         }
+    }
+}
+
+/// Sums with which some month enters a whole number of grams less some
+/// millionths of one: the quotient of a float would be rounded up.
+fn short_of_a_gram(group: &mut Group) {
+    let farm = Single {
+        line: [1, 0, 1, 1_999, 19_999, 9_999, 100, 0],
+        ..every_number_of_days()
+    };
+    for (days, sum) in [(28, 1_183_441), (30, 1_128_004), (31, 1_014_195)] {
+        group.book(
+            format!("{sum} heads, almost a gram more in a month of {days} days"),
+            &farm.book(each_year(sum), steady(CARRYING), nothing),
+        );
+    }
+}
+
+/// Two years, of which the first has a leap day.
+fn every_number_of_days() -> Single {
+    Single {
+        first: [2012, 1],
+        ..Single::paper(24)
     }
 }
 
