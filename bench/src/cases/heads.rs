@@ -23,8 +23,8 @@ pub fn heads() -> Group {
     group
 }
 
-/// A year's heads in one month, in any, or in some: the figures are those of
-/// as many in every month.
+/// A year's heads all in one month, whichever it is: the figures are those of a
+/// herd that stays. And half of a herd that goes in some month.
 fn within_a_year(group: &mut Group) {
     for only in 1..=12 {
         let heads = |month| if month == only { 12 * 100 } else { 0 };
@@ -53,8 +53,8 @@ fn within_a_year(group: &mut Group) {
     }
 }
 
-/// A jump in the last or the first month of a year of the book, which is no
-/// January but where the book starts with one.
+/// Jumps about the ends of the book's years, which are those of the calendar
+/// only where the book starts in January.
 fn beside_a_years_end(group: &mut Group) {
     for first in [1, 2, 7, 12] {
         let farm = Single {
@@ -68,7 +68,9 @@ fn beside_a_years_end(group: &mut Group) {
             let sum = if jump > 24 { 2_400 } else { 1_200 };
             group
                 .book(
-                    format!("more heads in month {jump} alone, from month {first} of 2011"),
+                    format!(
+                        "more heads in month {jump} alone, the book from month {first} of 2011"
+                    ),
                     &farm.book(once, steady(CARRYING), nothing),
                 )
                 .states("entered", third_year(sum));
@@ -76,7 +78,7 @@ fn beside_a_years_end(group: &mut Group) {
             let sum = 1_200 + 300 * (37 - jump).min(12);
             group
                 .book(
-                    format!("more heads from month {jump} on, from month {first} of 2011"),
+                    format!("more heads from month {jump} on, the book from month {first} of 2011"),
                     &farm.book(from_then_on, steady(CARRYING), nothing),
                 )
                 .states("entered", third_year(sum));
@@ -103,8 +105,8 @@ fn another_sum_each_year(group: &mut Group) {
     }
 }
 
-/// Sums of 1 to 23 and beside a hundred heads: an average that is rounded
-/// by itself would lose up to a head, or gain one.
+/// Sums of 1 to 23 heads, and those about a hundred in each month: an average
+/// that is rounded by itself loses or gains a part of a head.
 fn not_divided_by_12(group: &mut Group) {
     let odd_line = [1, 0, 1, 811, 6_003, 9_999, 24, 0];
     for sum in (1..=23).chain(12 * 100 - 11..=12 * 100 + 11) {
@@ -260,7 +262,7 @@ fn drained(group: &mut Group) {
                 let book = farm.book(heads, steady(CARRYING), nothing);
                 group.book(
                     format!(
-                        "fewer heads from month {jump} on, month {drained} drained, from month {first} of 2011"
+                        "fewer heads from month {jump} on, month {drained} drained, the book from month {first} of 2011"
                     ),
                     &and(book, &[record(DR, &[1, drained])]),
                 );
