@@ -64,7 +64,7 @@ hour efficiency = meteredOf (nearest 100 1 ∷ []) (nearest 60 1 ∷ []) (0 ∷ 
 pub record Starred : Type 0 where
   pub enters-31-days : herd 1 ≡ solids 14880000
   pub enters-28-days : herd 2 ≡ solids 13440000
-  -- half the herd leaves after March 2011; another herd keeps 45 head after April 2012, its second year
+  -- half the herd leaves after March 2011; another herd keeps 45 head after April 2012, in its second year (what wrong readings would give: Misread, below)
   pub january-2011-unequal : herdBy (moved 3 50) 1 ≡ solids 9300000
   pub december-2012-unequal : herdBy (moved 16 45) 24 ≡ solids 9424000
   pub january-degraded : january false .degraded ≡ solids 1547520
