@@ -127,9 +127,9 @@ fn line_in(
         };
     };
     let numbers = book_herd::line_at(book, line);
-    let herd = heads[numbers.category as usize - 1];
+    let own_heads = heads[numbers.category as usize - 1];
     if system == ANAEROBIC {
-        let entered = entries(numbers, herd, days);
+        let entered = entries(numbers, own_heads, days);
         let totals = solids(book, year, line, from, &entered, factors);
         let standing = totals.standing;
         return LineYear {
@@ -138,7 +138,7 @@ fn line_in(
         };
     }
     LineYear {
-        sums: other(numbers, herd),
+        sums: other(numbers, own_heads),
         standing: from,
     }
 }

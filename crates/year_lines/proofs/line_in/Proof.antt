@@ -58,27 +58,27 @@ of-category read =
     (category-some (now (start .args .book)) (start .pre .0) (start .args .line) (start .pre .1 .1 .0)
     (sym (read .before .before .before .before .system .ensures) ∙ read .before .before .system2 .given .1))
 
-abbrev herd : tie.After-line-at → ℕ
-herd read = getD (begun read .args .heads .now) (read .line-at .result .category - 1) 0
+abbrev own-heads : tie.After-line-at → ℕ
+own-heads read = getD (begun read .args .heads .now) (read .line-at .result .category - 1) 0
 
-summed : (read : tie.After-line-at) → herd read ≡ headsOf (now (begun read .args .book)) (begun read .args .year) (read .line-at .result .category)
+summed : (read : tie.After-line-at) → own-heads read ≡ headsOf (now (begun read .args .book)) (begun read .args .year) (read .line-at .result .category)
 summed read =
     let start = begun read in
     heads-at (now (start .args .book)) (start .args .year) (read .line-at .result .category) (start .pre .1 .1 .1 .1 .0) (of-category read) (ranged read .category)
 
-few : (read : tie.After-line-at) → herd read ≤ headsMost
+few : (read : tie.After-line-at) → own-heads read ≤ headsMost
 few read =
     let start = begun read in
     rw (summed read) (heads-most (now (start .args .book)) (start .pre .0) (start .args .year) (start .pre .1 .0) (read .line-at .result .category) (ranged read .category))
 
-sub-herd : tie.Need-sub-herd
-sub-herd c = of-category c
+sub-own-heads : tie.Need-sub-own-heads
+sub-own-heads c = of-category c
 
-mul-herd : tie.Need-mul-herd
-mul-herd c = omega (arith, ranged c .category)
+mul-own-heads : tie.Need-mul-own-heads
+mul-own-heads c = omega (arith, ranged c .category)
 
-shared-slice-read-herd : tie.Need-shared-slice-read-herd
-shared-slice-read-herd c = omega (arith, of-category (c .before), ranged (c .before) .category, begun (c .before) .pre .1 .1 .1 .1 .0 .long)
+shared-slice-read-own-heads : tie.Need-shared-slice-read-own-heads
+shared-slice-read-own-heads c = omega (arith, of-category (c .before), ranged (c .before) .category, begun (c .before) .pre .1 .1 .1 .1 .0 .long)
 
 entries-requires : tie.Need-entries-requires
 entries-requires c κs =
@@ -100,7 +100,7 @@ solids-requires c κs =
     taken-up book (start .args .line) (read .before .before .before .before .system .ensures) (read .before .before .system2 .given .1)
     (start .args .year - 1) (c .before .before .if1 .taken) (start .pre .1 .1 .1 .0) in
     let held =
-    entered-held book (start .args .line) (start .args .year) (start .pre .1 .0 .low) (read .line-at .result) (herd read) (read .line-at .ensures) (summed read)
+    entered-held book (start .args .line) (start .args .year) (start .pre .1 .0 .low) (read .line-at .result) (own-heads read) (read .line-at .ensures) (summed read)
     (start .pre .1 .1 .1 .1 .1 .0) (c .before .entries .ensures) in
     (start .pre .0, (start .pre .1 .0, (start .pre .1 .1 .0, (from, (held, start .pre .1 .1 .1 .1 .1 .1)))))
 
@@ -152,9 +152,9 @@ line-in-spec =
     nothing-requires
     returns
     line-at-requires
-    sub-herd
-    mul-herd
-    shared-slice-read-herd
+    sub-own-heads
+    mul-own-heads
+    shared-slice-read-own-heads
     entries-requires
     slice-aggregate-solids
     solids-requires
