@@ -9,10 +9,11 @@ use native.Mathlib.Nat.{mul-le-mul-right}
 use native.Mathlib.Omega.{arith}
 use lib.ListN.{length}
 use Rattle.lagoon_month.specs.declared.Month.{Month}
+use Rattle.lagoon_month.specs.declared.Outcome.{Outcome}
 use Rattle.lagoon_month.specs.declared.Standing.{Standing}
 use Rattle.lagoon_run.specs.declared.Totals.{Totals}
 use Rattle.lagoon_factor.specs.Rule.{million}
-use Rattle.lagoon_month.specs.Month.{availableOf}
+use Rattle.lagoon_month.specs.Month.{availableOf, outcomeOf}
 use Rattle.lagoon_run.specs.Run.{startOf, withOf, runFrom, monthsOf}
 use Rattle.lagoon_month.specs.Asks.{enteredMost, gramsMost}
 use Rattle.lagoon_run.specs.Asks.{RunFits}
@@ -56,3 +57,12 @@ module _ (standing : Standing) (entered factors : List ℕ) (drained : List Bool
     pub one-more : {month : Month} {next : Totals} → month ≡ months (passed + 1) → next ≡ withOf totals month → next ≡ runFrom (start .standing) months (passed + 1)
     unfolding runFrom
     one-more read more = rw (add-one passed, ← is) (rw (read, add-one passed) at more)
+
+  -- a turn of the loop that keeps the standing alone
+  module _ {at : Standing} (passed : ℕ) (is : at ≡ runFrom standing months passed .standing) {month : Month} (read : month ≡ months (passed + 1)) where
+    pub has-room-at : RunFits standing entered factors drained → passed < length entered → (availableOf at month < gramsMost) × (month .factor ≤ million)
+    has-room-at fits below = let r = room fits passed below in rw (is, read, add-one passed) (omega (arith, r .out), r .factor)
+
+    pub one-more-at : {outcome : Outcome} → outcome ≡ outcomeOf at month → outcome .next ≡ runFrom standing months (passed + 1) .standing
+    unfolding runFrom withOf
+    one-more-at told = rw (told, read, is, add-one passed)

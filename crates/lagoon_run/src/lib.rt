@@ -67,6 +67,20 @@ pub fn run(from: Standing, entered: &[u64], factors: &[u64], drained: &[bool]) -
     totals
 }
 
+// The standing that the same months hand on, where nobody asks for their totals.
+pub fn handed_on(from: Standing, entered: &[u64], factors: &[u64], drained: &[bool]) -> Standing
+    requires { ⌜ RunFits from (now entered) (now factors) (now drained) ⌝ }
+    ensures { λ r. ⌜ r ≡ runFrom from (monthsOf (now (entered .entry)) (now (factors .entry)) (now (drained .entry)))
+        (length (now (entered .entry))) .standing ⌝ }
+{
+    let mut standing = from;
+    for passed in 0..entered.len() {
+        let outcome = standing.month(month_after(entered, factors, drained, passed));
+        standing = outcome.next;
+    }
+    standing
+}
+
 // The figures of the month that follows the first `passed` months.
 fn month_after(entered: &[u64], factors: &[u64], drained: &[bool], passed: usize) -> Month
     requires { ⌜ (passed < length (now entered)) × (passed < length (now factors)) × (passed < length (now drained)) ⌝ }

@@ -49,8 +49,8 @@ module _ (book : List ℕ) (line : ℕ) {seen : Seen} (read : seen ≡ systemOf 
     handed-other year standing other = λ a.
         let both : Value system ≡ Value anaerobic = sym value ∙ read ∙ a in let z : system ≡ anaerobic = cc in absurd (other z)
 
-    pub taken-up : (year : ℕ) {from : Standing} → system ≡ anaerobic → Handed book year line from → from ≡ runOf (monthAt book line) (monthsThrough year) .standing
-    taken-up year z handed = handed (sym read ∙ value ∙ ap Value z)
+    pub stands : system ≡ anaerobic → systemOf book line ≡ Value anaerobic
+    stands z = sym read ∙ value ∙ ap Value z
 
 -- a walk over the lines that has come to one: those before it are renewed, and it and those after it are as the year before left them
 pub record Renewed (book : List ℕ) (year line : ℕ) (standings : List Standing) : Type 0 where

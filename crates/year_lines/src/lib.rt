@@ -6,19 +6,18 @@ ghost use Prim.Native.Nat.{ℕ, _-_, _≤_};
 ghost use lib.ListN.{length, getD};
 ghost use Rattle.calendar.specs.Days.{monthsInYear};
 ghost use Rattle.lagoon_month.specs.Asks.{headsMost};
-ghost use Rattle.lagoon_run.specs.Run.{runOf, yearOf};
-ghost use Rattle.record_table.specs.Table.{lines};
+ghost use Rattle.record_table.specs.Table.{lines, categories};
 ghost use Rattle.book.specs.Valid.{Valid};
-ghost use Rattle.book_herd.specs.Herd.{drainedOf};
-ghost use Rattle.year_months.specs.Series.{monthsBefore, daysAt, factorAt};
+ghost use Rattle.book_slots.specs.declared.Seen.the-variants.{Value};
+ghost use Rattle.book_herd.specs.Herd.{systemOf, drainedOf};
+ghost use Rattle.year_months.specs.Series.{daysAt, factorAt};
 ghost use Rattle.year_months.specs.Asks.{InPeriod, Holds, HoldsYear};
 ghost use Rattle.year_heads.specs.Asks.{HoldsHeads};
-ghost use Rattle.year_lines.specs.Lines.{enteredBy, enteredAt, monthAt, otherOf, lineIn, all, sumsOf};
+ghost use Rattle.year_lines.specs.Lines.{anaerobic, enteredBy, enteredAt, otherOf, lineIn, all, sumsOf};
 ghost use Rattle.year_lines.specs.Asks.{Handed, Standings};
 use book_herd::Line;
 use book_slots::Seen;
 use lagoon_month::Standing;
-use lagoon_run::Totals;
 use units::Solids;
 use year_months::MONTHS_IN_YEAR;
 use year_sums::Sums;
@@ -37,18 +36,6 @@ const DAYS_IN_YEAR: u64 = 365;
 // A conversion factor counts ten-thousandths.
 const CONVERSION_PARTS: u64 = 10_000;
 
-// A line in a year: its sums, and the standing that the year hands on.
-struct LineYear {
-    sums: Sums,
-    standing: Standing,
-}
-
-// All lines of a year together, with the standing that each hands on.
-struct LinesYear {
-    sums: Sums,
-    standings: [Standing; LINES],
-}
-
 // All lines of a year. The standing that each has from the years before is worked out first, from the first
 // month.
 pub fn sums_of(book: &[u8], year: usize) -> Sums
@@ -56,8 +43,7 @@ pub fn sums_of(book: &[u8], year: usize) -> Sums
     requires { ⌜ InPeriod year ⌝ }
     ensures { λ r. ⌜ r ≡ sumsOf (now (book .entry)) year all ⌝ }
 {
-    let whole = sums_from(book, year, standings_before(book, year));
-    whole.sums
+    sums_from(book, year, standings_before(book, year))
 }
 
 // The standing that each line has from the years before: one after the other, from empty lagoons.
@@ -69,38 +55,82 @@ fn standings_before(book: &[u8], year: usize) -> [Standing; LINES]
     let empty = Standing::empty();
     let mut standings = [empty; LINES];
     for earlier in 1..year {
-        let past = sums_from(book, earlier, standings);
-        standings = past.standings;
+        let handed_on = standings_after(book, earlier, standings);
+        standings = handed_on;
     }
     standings
 }
 
-// All lines, each from the standing that the year before handed on. Days and factors are the months'
-// alone, and the heads the categories': they are worked out once.
-fn sums_from(book: &[u8], year: usize, before: [Standing; LINES]) -> LinesYear
+// The standing that each line hands on from an earlier year: nothing else is asked of it, and its sums are
+// left out. Days and factors are the months' alone, and the heads the categories': they are worked out once.
+fn standings_after(book: &[u8], earlier: usize, before: [Standing; LINES]) -> [Standing; LINES]
+    requires { ⌜ Valid (now book) ⌝ }
+    requires { ⌜ InPeriod earlier ⌝ }
+    requires { ⌜ Standings (now book) (earlier - 1) before ⌝ }
+    ensures { λ r. ⌜ Standings (now (book .entry)) earlier r ⌝ }
+{
+    let heads = year_heads::by_category(book, earlier);
+    let days = year_months::days(book, earlier);
+    let factors = year_months::factors(book, earlier);
+    let mut standings = before;
+    for line in 1..=LINES {
+        let from = standings[line - 1];
+        standings[line - 1] = standing_after(book, earlier, line, from, &heads, &days, &factors);
+    }
+    standings
+}
+
+// What one line hands on. A line of another system than the anaerobic has no standing: the one that it is
+// given is handed on as it is, and nothing reads it.
+fn standing_after(
+    book: &[u8],
+    year: usize,
+    line: usize,
+    from: Standing,
+    heads: &[u64],
+    days: &[u64],
+    factors: &[u64],
+) -> Standing
+    requires { ⌜ Valid (now book) ⌝ }
+    requires { ⌜ InPeriod year ⌝ }
+    requires { ⌜ line ≤ lines ⌝ }
+    requires { ⌜ Handed (now book) (year - 1) line from ⌝ }
+    requires { ⌜ HoldsHeads (now book) year (now heads) ⌝ }
+    requires { ⌜ HoldsYear ℕ 0 year (daysAt (now book)) (now days) ⌝ }
+    requires { ⌜ HoldsYear ℕ 0 year (factorAt (now book)) (now factors) ⌝ }
+    ensures { λ r. ⌜ Handed (now (book .entry)) year line r ⌝ }
+{
+    let Seen::Value(system) = book_herd::system(book, line) else {
+        return from;
+    };
+    if system == ANAEROBIC {
+        let entered = entered_in(book, year, line, heads, days);
+        let drained = drains(book, year, line);
+        return lagoon_run::handed_on(from, &entered, factors, &drained);
+    }
+    from
+}
+
+// All lines, each from the standing that the years before handed on.
+fn sums_from(book: &[u8], year: usize, before: [Standing; LINES]) -> Sums
     requires { ⌜ Valid (now book) ⌝ }
     requires { ⌜ InPeriod year ⌝ }
     requires { ⌜ Standings (now book) (year - 1) before ⌝ }
-    ensures { λ r. ⌜ r .sums ≡ sumsOf (now (book .entry)) year all ⌝ }
-    ensures { λ r. ⌜ Standings (now (book .entry)) year (r .standings) ⌝ }
+    ensures { λ r. ⌜ r ≡ sumsOf (now (book .entry)) year all ⌝ }
 {
     let heads = year_heads::by_category(book, year);
     let days = year_months::days(book, year);
     let factors = year_months::factors(book, year);
-    let mut standings = before;
     let mut sums = Sums::nothing();
     for line in 1..=LINES {
-        let from = standings[line - 1];
+        let from = before[line - 1];
         let own = line_in(book, year, line, from, &heads, &days, &factors);
-        let next = own.standing;
-        standings[line - 1] = next;
-        sums = sums.plus(own.sums);
+        sums = sums.plus(own);
     }
-    LinesYear { sums, standings }
+    sums
 }
 
-// One line, by its system, from the standing that the year before handed on. A line of another system than
-// the anaerobic has no standing: the one it is given is handed on as it is, and nothing reads it.
+// One line, by its system.
 fn line_in(
     book: &[u8],
     year: usize,
@@ -109,7 +139,7 @@ fn line_in(
     heads: &[u64],
     days: &[u64],
     factors: &[u64],
-) -> LineYear
+) -> Sums
     requires { ⌜ Valid (now book) ⌝ }
     requires { ⌜ InPeriod year ⌝ }
     requires { ⌜ line ≤ lines ⌝ }
@@ -117,30 +147,47 @@ fn line_in(
     requires { ⌜ HoldsHeads (now book) year (now heads) ⌝ }
     requires { ⌜ HoldsYear ℕ 0 year (daysAt (now book)) (now days) ⌝ }
     requires { ⌜ HoldsYear ℕ 0 year (factorAt (now book)) (now factors) ⌝ }
-    ensures { λ r. ⌜ r .sums ≡ lineIn (now (book .entry)) year line ⌝ }
-    ensures { λ r. ⌜ Handed (now (book .entry)) year line (r .standing) ⌝ }
+    ensures { λ r. ⌜ r ≡ lineIn (now (book .entry)) year line ⌝ }
 {
     let Seen::Value(system) = book_herd::system(book, line) else {
-        return LineYear {
-            sums: Sums::nothing(),
-            standing: from,
-        };
+        return Sums::nothing();
     };
     let numbers = book_herd::line_at(book, line);
-    let own_heads = heads[numbers.category as usize - 1];
     if system == ANAEROBIC {
-        let entered = entries(numbers, own_heads, days);
-        let totals = solids(book, year, line, from, &entered, factors);
-        let standing = totals.standing;
-        return LineYear {
-            sums: Sums::anaerobic(totals, numbers.b0),
-            standing,
-        };
+        let entered = entered_in(book, year, line, heads, days);
+        let drained = drains(book, year, line);
+        let totals = lagoon_run::run(from, &entered, factors, &drained);
+        return Sums::anaerobic(totals, numbers.b0);
     }
-    LineYear {
-        sums: other(numbers, own_heads),
-        standing: from,
-    }
+    other(numbers, own_heads(numbers, heads))
+}
+
+// What an anaerobic line enters in grams, month by month of the year.
+fn entered_in(
+    book: &[u8],
+    year: usize,
+    line: usize,
+    heads: &[u64],
+    days: &[u64],
+) -> [u64; MONTHS_IN_YEAR]
+    requires { ⌜ Valid (now book) ⌝ }
+    requires { ⌜ InPeriod year ⌝ }
+    requires { ⌜ line ≤ lines ⌝ }
+    requires { ⌜ systemOf (now book) line ≡ Value anaerobic ⌝ }
+    requires { ⌜ HoldsHeads (now book) year (now heads) ⌝ }
+    requires { ⌜ HoldsYear ℕ 0 year (daysAt (now book)) (now days) ⌝ }
+    ensures { λ r. ⌜ HoldsYear ℕ 0 year (λ m. enteredAt (now (book .entry)) line m .0) r ⌝ }
+{
+    let numbers = book_herd::line_at(book, line);
+    entries(numbers, own_heads(numbers, heads), days)
+}
+
+// The sum of the year's heads of a line's category.
+fn own_heads(numbers: Line, heads: &[u64]) -> u64
+    requires { ⌜ (1 ≤ numbers .category) × (numbers .category ≤ categories) × (length (now heads) ≡ categories) ⌝ }
+    ensures { λ r. ⌜ r ≡ getD (now (heads .entry)) (numbers .category - 1) 0 ⌝ }
+{
+    heads[numbers.category as usize - 1]
 }
 
 // What a line enters in grams, month by month of a year, by the sum of the year's heads.
@@ -161,28 +208,6 @@ fn entries(numbers: Line, heads: u64, days: &[u64]) -> [u64; MONTHS_IN_YEAR]
         entries[passed] = entered.grams();
     }
     entries
-}
-
-// The year's solids of an anaerobic line, from what it entered and when it was drained: its twelve
-// months, from the standing that those before them handed on.
-fn solids(
-    book: &[u8],
-    year: usize,
-    line: usize,
-    from: Standing,
-    entered: &[u64],
-    factors: &[u64],
-) -> Totals
-    requires { ⌜ Valid (now book) ⌝ }
-    requires { ⌜ InPeriod year ⌝ }
-    requires { ⌜ line ≤ lines ⌝ }
-    requires { ⌜ from ≡ runOf (monthAt (now book) line) (monthsBefore year) .standing ⌝ }
-    requires { ⌜ HoldsYear ℕ 0 year (λ m. enteredAt (now book) line m .0) (now entered) ⌝ }
-    requires { ⌜ HoldsYear ℕ 0 year (factorAt (now book)) (now factors) ⌝ }
-    ensures { λ r. ⌜ r ≡ yearOf (monthAt (now (book .entry)) line) year ⌝ }
-{
-    let drained = drains(book, year, line);
-    lagoon_run::run(from, entered, factors, &drained)
 }
 
 // When a line was drained, month by month of the year.

@@ -21,8 +21,8 @@ empty-requires c κs = search needs
 loop-holds : tie.Need-loop-holds Inv-loop μ-loop
 loop-holds c = (omega arith, c .before .before .pre .1 .low, none-handed _ (c .empty .ensures))
 
-sums-from-requires : tie.Need-sums-from-requires Inv-loop μ-loop
-sums-from-requires c κs =
+standings-after-requires : tie.Need-standings-after-requires Inv-loop μ-loop
+standings-after-requires c κs =
     let loop = c .before .loop in
     let start = c .before .before .before .before in
     (start .pre .0, (record { low = omega arith; high = omega (arith, start .pre .1 .high) }, loop .inv .2))
@@ -35,9 +35,9 @@ loop-less c = omega arith
 
 loop-again : tie.Need-loop-again Inv-loop μ-loop
 loop-again c =
-    let earlier = c .before .before .before .loop .earlier in
+    let earlier = c .before .before .loop .earlier in
     let next : earlier ≡ earlier + 1 - 1 = omega arith in
-    (omega arith, omega arith, rw next at (c .before .sums-from .ensures .1))
+    (omega arith, omega arith, rw next at (c .standings-after .ensures))
 
 returns : tie.Need-returns Inv-loop μ-loop
 returns c =
@@ -53,7 +53,7 @@ standings-before-spec =
     μ-loop
     empty-requires
     loop-holds
-    sums-from-requires
+    standings-after-requires
     add-earlier
     loop-less
     loop-again

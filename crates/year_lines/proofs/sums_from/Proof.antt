@@ -1,4 +1,4 @@
--- `year_lines::sums_from` meets its contract: the sums of the lines before the one that the loop has come to, which stay small, and the standings that those lines hand on.
+-- `year_lines::sums_from` meets its contract: the sums of the lines before the one that the loop has come to, which stay small.
 -- Assumes nothing.
 use Prim.Native.Nat.{_+_, _-_, _≤_}
 use mathlib.Core.Path.{ap, sym, _∙_, _≡_}
@@ -9,16 +9,15 @@ use Rattle.record_table.specs.Table.{lines}
 use Rattle.year_lines.specs.Lines.{all, lineIn, sumsOver}
 use Rattle.year_lines.proofs.Bounds.{sums-fit}
 use Rattle.year_lines.proofs.BySystem.{one-line-more}
-use Rattle.year_lines.proofs.Carrying.{Renewed, renewed-all, renewed-more, renewed-none}
 use Rattle.year_lines.proofs.sums_from.Statement.{statement}
 use Rattle.year_lines.proofs.sums_from.Tie as tie
 
 abbrev Inv-loop : tie.InvT-loop
-Inv-loop book year heads days factors standings₀ sums₀ line₀ standings sums line =
-    (1 ≤ line) × (line ≤ lines + 1) × Renewed book year line standings × (sums ≡ sumsOver (lineIn book year) all (line - 1))
+Inv-loop book year before heads days factors sums₀ line₀ sums line =
+    (1 ≤ line) × (line ≤ lines + 1) × (sums ≡ sumsOver (lineIn book year) all (line - 1))
 
 abbrev μ-loop : tie.MeasureT-loop
-μ-loop book year heads days factors standings₀ sums₀ line₀ standings sums line = lines + 1 - line
+μ-loop book year before heads days factors sums₀ line₀ sums line = lines + 1 - line
 
 by-category-requires : tie.Need-by-category-requires Inv-loop μ-loop
 by-category-requires c κs = search needs
@@ -34,9 +33,7 @@ nothing-requires c κs = search needs
 
 loop-holds : tie.Need-loop-holds Inv-loop μ-loop
 unfolding sumsOver
-loop-holds c =
-    let start = c .before .before .before .before .before in
-    (omega arith, omega arith, renewed-none (now (start .args .book)) (start .args .year) (start .pre .1 .1), c .nothing .ensures)
+loop-holds c = (omega arith, omega arith, c .nothing .ensures)
 
 sub-from : tie.Need-sub-from Inv-loop μ-loop
 sub-from c = omega arith
@@ -61,25 +58,16 @@ line-in-requires c κs =
     let loop = c .before .before .before .before .before .loop in
     let made = c .before .before .before .before .before .before .before in
     let start = made .before .before .before .before in
-    let left = loop .inv .2 .left (loop .line) (omega arith) (omega arith) in (
+    let left = start .pre .1 .1 .each (loop .line) (omega arith) (omega arith) in (
       start .pre .0,
       (start .pre .1 .0, (omega arith, (left, (made .before .before .by-category .ensures, (made .before .days .ensures, made .factors .ensures))))),
     )
 
-sub-standings : tie.Need-sub-standings Inv-loop μ-loop
-sub-standings c = omega arith
-
-mul-standings : tie.Need-mul-standings Inv-loop μ-loop
-mul-standings c = omega arith
-
-array-set-from-standings : tie.Need-array-set-from-standings Inv-loop μ-loop
-array-set-from-standings c = omega arith
-
 plus-requires : tie.Need-plus-requires Inv-loop μ-loop
 plus-requires c κs =
-    let loop = c .before .before .before .before .before .before .before .loop in
-    let start = c .before .before .before .before .before .before .before .before .before .before .before .before .before in
-    rw (loop .inv .3, c .before .line-in .ensures .0)
+    let loop = c .before .before .before .before .before .before .loop in
+    let start = c .before .before .before .before .before .before .before .before .before .before .before .before in
+    rw (loop .inv .2, c .line-in .ensures)
     (sums-fit (now (start .args .book)) (start .pre .0) (start .args .year) (start .pre .1 .0) (loop .line - 1) (loop .line) (omega arith) (omega arith))
 
 add-line : tie.Need-add-line Inv-loop μ-loop
@@ -90,21 +78,14 @@ loop-less c = omega arith
 
 loop-again : tie.Need-loop-again Inv-loop μ-loop
 loop-again c =
-    let loop = c .before .before .before .before .before .before .before .before .loop in
-    let start = c .before .before .before .before .before .before .before .before .before .before .before .before .before .before in
-    let own = c .before .before .line-in .ensures in (
-      omega arith,
-      omega arith,
-      renewed-more (now (start .args .book)) (start .args .year) (loop .line) (omega arith) (omega arith) (own .1) (loop .inv .2),
-      one-line-more _ (loop .line) (omega arith) (loop .inv .3) (own .0) (c .plus .ensures),
-    )
+    let loop = c .before .before .before .before .before .before .before .loop in
+    (omega arith, omega arith, one-line-more _ (loop .line) (omega arith) (loop .inv .2) (c .before .line-in .ensures) (c .plus .ensures))
 
 returns : tie.Need-returns Inv-loop μ-loop
 returns c =
     let loop = c .before .loop in
-    let start = c .before .before .before .before .before .before .before in
     let end : loop .line - 1 ≡ lines = omega arith in
-    (loop .inv .3 ∙ ap (sumsOver _ all) end, renewed-all (now (start .args .book)) (start .args .year) (omega arith) (loop .inv .2))
+    loop .inv .2 ∙ ap (sumsOver _ all) end
 
 pub sums-from-spec : {M : Type 1} → statement M
 sums-from-spec =
@@ -124,9 +105,6 @@ sums-from-spec =
     slice-aggregate-line-in-2
     slice-aggregate-line-in-3
     line-in-requires
-    sub-standings
-    mul-standings
-    array-set-from-standings
     plus-requires
     add-line
     loop-less
