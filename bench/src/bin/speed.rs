@@ -18,8 +18,8 @@ use second::book::Book as PlainBook;
 
 const ROUNDS: usize = 300;
 
-/// The most that proved / plain may be on any line. Measured were 0.38 to 0.88,
-/// on two machines; the room above that is for busy ones.
+/// The most that proved / plain may be on any line. Measured were 0.36 to 0.95,
+/// on three machines; the room above that is for busy ones.
 const MOST_RATIO: f64 = 1.5;
 
 fn main() -> ExitCode {
