@@ -75,14 +75,14 @@ fn standings_after(book: &[u8], earlier: usize, before: [Standing; LINES]) -> [S
     let mut standings = before;
     for line in 1..=LINES {
         let from = standings[line - 1];
-        standings[line - 1] = standing_after(book, earlier, line, from, &heads, &days, &factors);
+        standings[line - 1] = line_hands_on(book, earlier, line, from, &heads, &days, &factors);
     }
     standings
 }
 
 // What one line hands on. A line of another system than the anaerobic has no standing: the one that it is
 // given is handed on as it is, and nothing reads it.
-fn standing_after(
+fn line_hands_on(
     book: &[u8],
     year: usize,
     line: usize,

@@ -3,7 +3,7 @@
 use borrow.Author.Needs.{needs}
 use denote.Ref.{now}
 use Rattle.year_lines.proofs.Entered.{entered-held, days-held}
-use Rattle.year_lines.proofs.Own.{ranged, of-category, summed, few}
+use Rattle.year_lines.proofs.OwnHeads.{ranged, of-category, summed, few}
 use Rattle.year_lines.proofs.entered_in.Statement.{statement}
 use Rattle.year_lines.proofs.entered_in.Tie as tie
 

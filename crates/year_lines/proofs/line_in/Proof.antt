@@ -12,7 +12,7 @@ use Rattle.year_lines.proofs.Bounds.{arrays-fit, year-most, year-run}
 use Rattle.year_lines.proofs.BySystem.{absent-is, anaerobic-is, other-is}
 use Rattle.year_lines.proofs.Carrying.{stands}
 use Rattle.year_lines.proofs.Ranges.{LineRanged}
-use Rattle.year_lines.proofs.Own.{ranged, of-category, summed, few}
+use Rattle.year_lines.proofs.OwnHeads.{ranged, of-category, summed, few}
 use Rattle.year_lines.proofs.line_in.Statement.{statement}
 use Rattle.year_lines.proofs.line_in.Tie as tie
 

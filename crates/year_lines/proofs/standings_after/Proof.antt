@@ -39,17 +39,17 @@ mul-from c = omega arith
 array-copy-out-from : tie.Need-array-copy-out-from Inv-loop μ-loop
 array-copy-out-from c = omega arith
 
-slice-aggregate-standing-after : tie.Need-slice-aggregate-standing-after Inv-loop μ-loop
-slice-aggregate-standing-after c = sym (c .before .before .before .before .before .before .by-category .ensures .long)
+slice-aggregate-line-hands-on : tie.Need-slice-aggregate-line-hands-on Inv-loop μ-loop
+slice-aggregate-line-hands-on c = sym (c .before .before .before .before .before .before .by-category .ensures .long)
 
-slice-aggregate-standing-after-2 : tie.Need-slice-aggregate-standing-after-2 Inv-loop μ-loop
-slice-aggregate-standing-after-2 c = sym (c .before .before .before .before .before .before .days .ensures .long)
+slice-aggregate-line-hands-on-2 : tie.Need-slice-aggregate-line-hands-on-2 Inv-loop μ-loop
+slice-aggregate-line-hands-on-2 c = sym (c .before .before .before .before .before .before .days .ensures .long)
 
-slice-aggregate-standing-after-3 : tie.Need-slice-aggregate-standing-after-3 Inv-loop μ-loop
-slice-aggregate-standing-after-3 c = sym (c .before .before .before .before .before .before .factors .ensures .long)
+slice-aggregate-line-hands-on-3 : tie.Need-slice-aggregate-line-hands-on-3 Inv-loop μ-loop
+slice-aggregate-line-hands-on-3 c = sym (c .before .before .before .before .before .before .factors .ensures .long)
 
-standing-after-requires : tie.Need-standing-after-requires Inv-loop μ-loop
-standing-after-requires c κs =
+line-hands-on-requires : tie.Need-line-hands-on-requires Inv-loop μ-loop
+line-hands-on-requires c κs =
     let loop = c .before .before .before .before .before .loop in
     let made = c .before .before .before .before .before .before in
     let start = made .before .before .before .before in
@@ -79,7 +79,7 @@ loop-again c =
     let start = c .before .before .before .before .before .before .before .before .before .before .before in (
       omega arith,
       omega arith,
-      renewed-more (now (start .args .book)) (start .args .earlier) (loop .line) (omega arith) (omega arith) (c .standing-after .ensures) (loop .inv .2),
+      renewed-more (now (start .args .book)) (start .args .earlier) (loop .line) (omega arith) (omega arith) (c .line-hands-on .ensures) (loop .inv .2),
     )
 
 returns : tie.Need-returns Inv-loop μ-loop
@@ -100,10 +100,10 @@ standings-after-spec =
     sub-from
     mul-from
     array-copy-out-from
-    slice-aggregate-standing-after
-    slice-aggregate-standing-after-2
-    slice-aggregate-standing-after-3
-    standing-after-requires
+    slice-aggregate-line-hands-on
+    slice-aggregate-line-hands-on-2
+    slice-aggregate-line-hands-on-3
+    line-hands-on-requires
     sub-standings
     mul-standings
     array-set-from-standings

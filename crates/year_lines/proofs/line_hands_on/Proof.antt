@@ -1,4 +1,4 @@
--- `year_lines::standing_after` meets its contract, by the line's system: the arrays hold the year's months of an anaerobic line.
+-- `year_lines::line_hands_on` meets its contract, by the line's system: the arrays hold the year's months of an anaerobic line.
 -- Assumes nothing.
 use mathlib.Core.Path.{refl, _≡_, _∙_}
 use borrow.Author.Needs.{needs}
@@ -8,8 +8,8 @@ use Rattle.book_herd.specs.Herd.{systemOf}
 use Rattle.year_lines.specs.Lines.{anaerobic}
 use Rattle.year_lines.proofs.Bounds.{arrays-fit, year-run}
 use Rattle.year_lines.proofs.Carrying.{handed-absent, handed-other, stands, year-handed}
-use Rattle.year_lines.proofs.standing_after.Statement.{statement}
-use Rattle.year_lines.proofs.standing_after.Tie as tie
+use Rattle.year_lines.proofs.line_hands_on.Statement.{statement}
+use Rattle.year_lines.proofs.line_hands_on.Tie as tie
 
 system-requires : tie.Need-system-requires
 system-requires c κs = search needs
@@ -72,8 +72,8 @@ returns-3 c =
     handed-other (now (start .args .book)) (start .args .line) (c .before .before .before .before .system .ensures) (c .before .before .system2 .given .1)
     (start .args .year) (start .args .from) (c .if1 .left)
 
-pub standing-after-spec : {M : Type 1} → statement M
-standing-after-spec =
+pub line-hands-on-spec : {M : Type 1} → statement M
+line-hands-on-spec =
     tie.close
     (tie.spec
     system-requires
