@@ -18,7 +18,7 @@
  *                                                               lowest month, counted from YR
  *    9  no year from 1 to 10                                    0
  *   10  no month of hours, or slices of different lengths       0
- *   11  an hour's state or reading is bad                       the first such hour, from 0
+ *   11  an hour's state or a reading of it is bad               the first such hour, from 0
  *
  * (12, a sum that passes 2^63, is a refusal of the rules that no book reaches.)
  *
@@ -62,7 +62,8 @@ struct cabinet_year {
     uint64_t credited;        /* tonnes: net, or 0 where net is below 0 */
 };
 
-/* A meter month. example/mt_record.h makes the MT record of it. */
+/* A meter month, of either kind of meter. example/mt_record.h makes the MT
+ * record of it. */
 struct cabinet_month {
     uint64_t number;
     uint64_t place;
@@ -73,6 +74,15 @@ struct cabinet_month {
 struct cabinet_reading {
     bool taken;     /* false: not a number, infinite, below zero or too large */
     uint64_t whole; /* litres, or hundredths of a per cent, rounded down */
+};
+
+/* One hour of a meter in cubic feet, before gaps are filled. */
+struct cabinet_feet_hour {
+    bool taken;       /* false: its month is refused 11, and nothing below is there */
+    bool has_flow;    /* false: the flow is missing */
+    bool has_content; /* false: the content is missing */
+    uint64_t flow;    /* hundredths of a standard cubic foot, rounded down; 0 where missing */
+    uint64_t content; /* hundredths of a per cent, rounded down; 0 where missing */
 };
 
 /* Makes `memory` an empty book and answers true. Where `bytes` is not
@@ -93,14 +103,31 @@ struct cabinet_posted cabinet_post(uint8_t *book, size_t book_bytes,
 /* A year of the book, whatever the number asked for. */
 struct cabinet_year cabinet_year(const uint8_t *book, size_t book_bytes, uint64_t year);
 
-/* The month of one meter, hour by hour: flows in cubic metres at 1 atm and
- * 60 F, methane contents in per cent, and states (0 both present, 1 no flow,
- * 2 no content, 3 neither; 4 is added when the device was out). Efficiency
- * counts ten-thousandths. Any lengths and any bytes are answered. */
+/* The month of one meter in cubic metres, hour by hour: flows in cubic metres
+ * at 1 atm and 60 F, methane contents in per cent, and states (0 both present,
+ * 1 no flow, 2 no content, 3 neither; 4 is added when the device was out).
+ * Efficiency counts ten-thousandths. Any lengths and any bytes are answered. */
 struct cabinet_month cabinet_month(const float *flows, size_t flow_count,
                                    const float *contents, size_t content_count,
                                    const uint8_t *states, size_t state_count,
                                    uint32_t efficiency);
+
+/* The month of one meter in cubic feet: flows in cubic feet (0 to 400,000),
+ * methane contents in per cent, temperatures in degrees Rankine (400 to 700),
+ * absolute pressures in atm (0 to 10), and states, to which 8 is added where
+ * the temperature or the pressure is missing: flow and both are then ignored,
+ * and the flow is missing. Any lengths and any bytes are answered. */
+struct cabinet_month cabinet_feet_month(const float *flows, size_t flow_count,
+                                        const float *contents, size_t content_count,
+                                        const float *temperatures, size_t temperature_count,
+                                        const float *pressures, size_t pressure_count,
+                                        const uint8_t *states, size_t state_count,
+                                        uint32_t efficiency);
+
+/* One hour of such a meter: whether its month takes it, and what it records,
+ * so that a bad reading shows when it is read and not when the month is over. */
+struct cabinet_feet_hour cabinet_feet_hour(float flow, float content, float temperature,
+                                           float pressure, uint8_t state);
 
 /* One flow as whole litres, and one content as whole hundredths of a per cent. */
 struct cabinet_reading cabinet_litres(float flow);
