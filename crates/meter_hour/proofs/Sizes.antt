@@ -4,7 +4,7 @@ use Prim.Native.Nat.{ℕ, _*_, _≤_}
 use mathlib.Core.Bool.{Bool, true, false, _||_, cond}
 use mathlib.Core.List.{List}
 use mathlib.Core.Path.{_≡_, refl}
-use native.Mathlib.Nat.{mul-le-mul}
+use native.Mathlib.Nat.{le-trans, mul-le-mul}
 use native.Mathlib.Omega.{arith}
 use lib.Dec.{ltb}
 use lib.Ieee.{Float}
@@ -12,7 +12,7 @@ use Rattle.units.specs.Grams.{shareOf}
 use Rattle.meter_reading.specs.declared.Measure.{Measure}
 use Rattle.meter_reading.specs.declared.Measure.the-variants.{Whole, TurnedDown}
 use Rattle.meter_reading.specs.Exact.{litresOf, hundredthsOf}
-use Rattle.meter_reading.proofs.Most.{scaled-most}
+use Rattle.meter_reading.proofs.Most.{scaled-within}
 use Rattle.meter_state.specs.declared.Reading.{Reading}
 use Rattle.meter_state.specs.declared.Reading.the-variants.{Both, NoFlow, NoContent, Neither}
 use Rattle.meter_state.specs.State.{isOut, stateAt, readingAt}
@@ -22,11 +22,11 @@ use Rattle.meter_series.specs.Series.{amount, isRecorded}
 use Rattle.meter_hour.specs.declared.Hour.{Hour}
 use Rattle.meter_hour.specs.declared.Hour.the-variants.{Taken, Refused}
 use Rattle.meter_hour.specs.declared.Kind.{Kind}
-use Rattle.meter_hour.specs.declared.Kind.the-variants.{CubicMetres}
+use Rattle.meter_hour.specs.declared.Kind.the-variants.{CubicMetres, CubicFeet}
 use Rattle.meter_hour.specs.Hour.{taking, recordedOf, hourAt, flowOf, contentOf, gramsIn, hourOf, wholeEfficiency}
 use Rattle.meter_hour.specs.Room.{mostFlow, mostContent}
 
-none-most : (k : ℕ) → amount Missing ≤ k
+pub none-most : (k : ℕ) → amount Missing ≤ k
 unfolding amount
 none-most k = omega arith
 
@@ -39,11 +39,11 @@ taking-most part none TurnedDown hour k h = rw none (none-most k)
 
 litres-most : (x : Float) (n : ℕ) → litresOf x ≡ Whole n → amount (Recorded n) ≤ mostFlow CubicMetres
 unfolding amount
-litres-most x n e = scaled-most 1000 100000 x n e
+litres-most x n e = scaled-within 1000 0 100000 x n e .1
 
 hundredths-most : (x : Float) (n : ℕ) → hundredthsOf x ≡ Whole n → amount (Recorded n) ≤ mostContent
 unfolding amount
-hundredths-most x n e = scaled-most 100 100 x n e
+hundredths-most x n e = scaled-within 100 0 100 x n e .1
 
 flow-most : (r : Reading) → amount (flowOf (recordedOf r)) ≤ mostFlow CubicMetres
 unfolding recordedOf
@@ -63,7 +63,7 @@ content-most (NoFlow c) = taking-most contentOf refl (hundredthsOf c) (Taken Mis
 content-most (NoContent f) = taking-most contentOf refl (litresOf f) (λ v. Taken v Missing) mostContent (λ n e. none-most mostContent)
 content-most Neither = none-most mostContent
 
-either-most : (part : Hour → Value) → part Refused ≡ Missing → (t : Bool) (hour : Hour) (k : ℕ) → amount (part hour) ≤ k → amount (part (cond t Refused hour)) ≤ k
+pub either-most : (part : Hour → Value) → part Refused ≡ Missing → (t : Bool) (hour : Hour) (k : ℕ) → amount (part hour) ≤ k → amount (part (cond t Refused hour)) ≤ k
 either-most part none true hour k h = rw none (none-most k)
 either-most part none false hour k h = h
 
@@ -82,17 +82,23 @@ module _ (flows contents : List Float) (states : List ℕ) where
 
 -- what an hour can weigh
 abbrev pub mostGrams : ℕ
-mostGrams = 68000000
+mostGrams = 99861840
 
 -- whatever the kind
-pub flows-most : (k : Kind) → mostFlow k ≤ 100000000
+pub flows-most : (k : Kind) → mostFlow k ≤ 520000000
 flows-most CubicMetres = omega arith
+flows-most CubicFeet = omega arith
+
+-- a flow times a content, whatever the kind
+pub product-most : (k : Kind) (flow content : ℕ) → flow ≤ mostFlow k → content ≤ mostContent → flow * content ≤ 5200000000000
+product-most k flow content f c = mul-le-mul {n₁ = flow} {m₁ = content} {n₂ = 520000000} {m₂ = 10000} (le-trans f (flows-most k)) c
 
 pub grams-most : (k : Kind) (flow content : ℕ) → flow ≤ mostFlow k → content ≤ mostContent → gramsIn k flow content ≤ mostGrams
 unfolding gramsIn
 grams-most CubicMetres flow content f c = omega (arith, mul-le-mul {n₁ = flow} {m₁ = content} {n₂ = 100000000} {m₂ = 10000} f c)
+grams-most CubicFeet flow content f c = omega (arith, product-most CubicFeet flow content f c)
 
-pub share-most : (g e : ℕ) → g ≤ mostGrams → e ≤ wholeEfficiency → g * e ≤ 680000000000
+pub share-most : (g e : ℕ) → g ≤ mostGrams → e ≤ wholeEfficiency → g * e ≤ 998618400000
 share-most g e a b = omega (arith, mul-le-mul a b)
 
 picked-most : (b : Bool) (x y m : ℕ) → x ≤ m → y ≤ m → cond b x y ≤ m

@@ -1,4 +1,4 @@
--- An hour of a meter: what it recorded, and what of that was destroyed (01, "The meter month").
+-- An hour of a meter: what it recorded, and what of that was destroyed (01, "The meter month"; 02, (iii)).
 use Prim.Native.Nat.{ℕ, _*_, _/_}
 use mathlib.Core.{Bool.Bool, Bool.true, Bool.false, Bool._||_, Bool.cond, List.List}
 use lib.{Dec.ltb, Ieee.Float}
@@ -8,7 +8,7 @@ use Rattle.meter_reading.specs.declared.Measure.{Measure, the-variants.Whole, t
 use Rattle.meter_state.specs.State.{isOut, stateAt, readingAt}
 use Rattle.meter_state.specs.declared.Reading.{Reading, the-variants.Both, the-variants.NoFlow, the-variants.NoContent, the-variants.Neither}
 use Rattle.meter_series.specs.{declared.Value.Value, declared.Value.the-variants.Recorded, declared.Value.the-variants.Missing, Series.amount, Series.isRecorded}
-use Rattle.meter_hour.specs.declared.{Hour.Hour, Hour.the-variants.Taken, Hour.the-variants.Refused, Kind.Kind, Kind.the-variants.CubicMetres}
+use Rattle.meter_hour.specs.declared.{Hour.Hour, Hour.the-variants.Taken, Hour.the-variants.Refused, Kind.Kind, Kind.the-variants.CubicMetres, Kind.the-variants.CubicFeet}
 
 -- a value that is present is recorded, or, where it is turned down, has its hour refused
 abbrev pub taking : Measure → (Value → Hour) → Hour
@@ -39,9 +39,11 @@ abbrev pub contentOf : Hour → Value
 contentOf (Taken flow content) = content
 contentOf Refused = Missing
 
--- grams of methane in a flow of some content, rounded down: a litre of it weighs 0.68 grams (house)
+-- grams of methane in a flow of some content, rounded down: a litre of it weighs 0.68 grams (house); a standard cubic foot weighs 0.0423
+-- pounds, each of 454 grams (5.10), and feet are counted in hundredths (02, (iii))
 unfoldable pub gramsIn : Kind → ℕ → ℕ → ℕ
 gramsIn CubicMetres litres hundredths = litres * hundredths * density / 1000000
+gramsIn CubicFeet feet hundredths = feet * hundredths * 423 * 454 / 10000000000
 
 abbrev pub wholeEfficiency : ℕ
 wholeEfficiency = 10000

@@ -1,4 +1,4 @@
-// An hour of a meter (01, "The meter month"): what it recorded, or that it is refused, and what of that was destroyed.
+// An hour of a meter (01, "The meter month"; 02, (iii)): what it recorded, or that it is refused, and what of that was destroyed.
 ghost use mathlib.Core.Path.{_≡_};
 ghost use mathlib.Core.Bool.{_||_};
 ghost use Prim.Native.Nat.{_≤_, _<_};
@@ -16,7 +16,8 @@ use units::Methane;
 // The efficiency of a device that destroys all methane: efficiency counts ten-thousandths.
 pub const WHOLE_EFFICIENCY: u32 = 10_000;
 
-// An hour of a month: taken, with its flow in litres and its content in hundredths of a per cent, where they are there, or refused.
+// An hour of a month: taken, with its flow, in what the meter's kind counts, and its content, in hundredths of a per cent, where they are
+// there; or refused.
 pub enum Hour {
     Taken(Value, Value),
     Refused,
@@ -64,9 +65,10 @@ fn with_content(flow: Value, content: f32) -> Hour
     }
 }
 
-// What a meter counts its flow in, which decides what the flow weighs.
+// What a meter reads its flow in. It decides what the flow is counted in, litres or hundredths of a standard cubic foot, and what that weighs.
 pub enum Kind {
     CubicMetres,
+    CubicFeet,
 }
 
 // What an hour destroyed, by its flow and content as recorded and after filling.
@@ -117,6 +119,14 @@ fn weigh(kind: Kind, flow: Value, content: Value) -> Methane
 // The density counts hundredths of a gram in a litre, and the whole has 10,000 hundredths of a per cent.
 const DENSITY_PARTS: u64 = 1_000_000;
 
+// A standard cubic foot of methane weighs 0.0423 pounds, here in ten-thousandths, and a pound has 454 grams (5.10).
+const POUNDS_IN_CUBIC_FOOT: u64 = 423;
+
+const GRAMS_IN_POUND: u64 = 454;
+
+// Those ten-thousandths, times the hundredths of a standard cubic foot, times the 10,000 hundredths of a per cent in the whole.
+const FOOT_PARTS: u64 = 10_000_000_000;
+
 impl Kind {
     // Grams of methane in a flow of some content, in hundredths of a per cent.
     fn grams(self, flow: u64, content: u64) -> Methane
@@ -125,6 +135,9 @@ impl Kind {
     {
         match self {
             Kind::CubicMetres => Methane::of_grams(flow * content * units::DENSITY / DENSITY_PARTS),
+            Kind::CubicFeet => Methane::of_grams(
+                flow * content * POUNDS_IN_CUBIC_FOOT * GRAMS_IN_POUND / FOOT_PARTS,
+            ),
         }
     }
 }

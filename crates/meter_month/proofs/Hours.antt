@@ -8,8 +8,8 @@ use native.Mathlib.Omega.{arith}
 use borrow.Author.Tests.{ne-eqb, eqb-true}
 use lib.Dec.{eqb}
 use Rattle.meter_series.specs.Series.{mostHours}
-use Rattle.meter_month.specs.Month.{isMonth, areHours}
-use Rattle.meter_month.specs.Asks.{AsLong}
+use Rattle.meter_month.specs.Month.{isMonth, areHours, areFeetHours}
+use Rattle.meter_month.specs.Asks.{AsLong, AllAsLong}
 
 pub month-yes : (n : ℕ) → (n ≡ 672) ⊎ ((n ≡ 696) ⊎ ((n ≡ 720) ⊎ (n ≡ 744))) → true ≡ isMonth n
 month-yes n (inl e) = rw e
@@ -55,6 +55,10 @@ as-long f c n e =
       eqb-true c n (and-r (eqb f n) (eqb c n) both),
       month-most n (and-r (eqb f n && eqb c n) (isMonth n) e),
     )
+
+pub all-as-long : (f c t p n : ℕ) → areFeetHours f c t p n ≡ true → AllAsLong f c t p n
+all-as-long f c t p n e =
+    (as-long f c n (and-l (areHours f c n) (areHours t p n) e), as-long t p n (and-r (areHours f c n) (areHours t p n) e))
 
 module _ {hour hours : ℕ} (inside : hour < hours) where
   pub reached : hour + 1 ≤ hours

@@ -1,4 +1,5 @@
 pub mod Determined
+pub mod EachKind
 pub mod Hours
 pub mod Numbers
 pub mod Readings

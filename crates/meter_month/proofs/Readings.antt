@@ -1,38 +1,26 @@
--- The series that a month recorded: nothing past its end; an array that holds it, cut at the month's end, is it.
+-- An array that holds what a month recorded, cut at the month's end, is the series of it, since past that end nothing is recorded.
 -- Assumes nothing.
 use Prim.Native.Nat.{ℕ, _≤_}
-use mathlib.Core.Path.{_≡_, refl, ap, sym, _∙_, fun-ext}
+use mathlib.Core.Path.{_≡_, ap, sym, _∙_, fun-ext}
 use mathlib.Core.List.{List}
-use lib.Ieee.{Float, nan}
-use lib.ListN.{length, getD, take, List·getD-eq-default}
+use lib.ListN.{length, take, List·getD-eq-default}
 use lib.Seq.{getD-take, length-take-le}
-use Rattle.meter_state.specs.State.{readingOf}
 use Rattle.meter_series.specs.declared.Value.{Value}
 use Rattle.meter_series.specs.declared.Value.the-variants.{Missing}
 use Rattle.meter_series.specs.Series.{valueOf, series}
 use Rattle.meter_series.proofs.Arrays.{agree}
 use Rattle.meter_hour.specs.declared.Hour.{Hour}
 use Rattle.meter_hour.specs.declared.Hour.the-variants.{Taken}
-use Rattle.meter_hour.specs.Hour.{recordedOf, hourAt}
 use Rattle.meter_month.specs.Month.{recorded}
 use Rattle.meter_month.specs.Asks.{Holds}
 
-neither : (flow content : Float) → recordedOf (readingOf 3 flow content) ≡ Taken Missing Missing
-unfolding recordedOf readingOf
-neither flow content = refl
-
-module _ (part : Hour → Value) (flows contents : List Float) (states : List ℕ) (none : part (Taken Missing Missing) ≡ Missing) where
-  past : (h : ℕ) → length states ≤ h → recorded part flows contents states h ≡ Missing
-  unfolding hourAt
-  past h l = rw (List·getD-eq-default states 3 l, neither (getD flows h nan) (getD contents h nan)) none
-
-  -- an array that holds the series, cut at the month's end
-  pub cut :
-      (l : List ℕ) → length states ≤ length l → Holds l (length states) (recorded part flows contents states) →
-      series (take (length states) l) ≡ recorded part flows contents states
-  cut l long holds =
-      fun-ext
-      (agree (series (take (length states) l)) (recorded part flows contents states) (length states)
-      (λ h b. ap valueOf (getD-take (length states) l h 0 b) ∙ holds h b)
-      (λ h b. ap valueOf (List·getD-eq-default (take (length states) l) 0 (rw (length-take-le (length states) l long) b)))
-      (λ h b. sym (past h b)))
+pub cut :
+    (part : Hour → Value) (hour : ℕ → Hour) (n : ℕ) →
+    part (Taken Missing Missing) ≡ Missing → ((h : ℕ) → n ≤ h → hour h ≡ Taken Missing Missing) →
+    (l : List ℕ) → n ≤ length l → Holds l n (recorded part hour) → series (take n l) ≡ recorded part hour
+cut part hour n none past l long holds =
+    fun-ext
+    (agree (series (take n l)) (recorded part hour) n
+    (λ h b. ap valueOf (getD-take n l h 0 b) ∙ holds h b)
+    (λ h b. ap valueOf (List·getD-eq-default (take n l) 0 (rw (length-take-le n l long) b)))
+    (λ h b. sym (ap part (past h b) ∙ none)))

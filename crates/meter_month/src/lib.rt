@@ -1,6 +1,6 @@
-// The month of one biogas meter (01, "The meter month"). Each hour is read once, its series are looked at a fixed number of times, and nothing lent is written.
+// The month of one biogas meter, of either kind (01, "The meter month"; 02, (iii)). Each hour is read once, its series are looked at a fixed number of times, and nothing lent is written.
 ghost use mathlib.Core.Path.{_≡_};
-ghost use Prim.Native.Nat.{_≤_};
+ghost use Prim.Native.Nat.{_≤_, _<_};
 ghost use lib.ListN.{length};
 ghost use Rattle.refusals.specs.Refusal.{refusal};
 ghost use Rattle.units.specs.Grams.{methane};
@@ -9,8 +9,8 @@ ghost use Rattle.meter_series.specs.Series.{series, AtMost};
 ghost use Rattle.meter_hour.specs.Hour.{flowOf, contentOf, wholeEfficiency};
 ghost use Rattle.meter_hour.specs.Room.{mostFlow, mostContent};
 ghost use Rattle.meter_month.specs.declared.MonthAnswer.the-variants.{Refused};
-ghost use Rattle.meter_month.specs.Month.{gramsOf, destroyedOf, isMonth, areHours, firstRefused, recorded, monthOf};
-ghost use Rattle.meter_month.specs.Asks.{AsLong, Holds};
+ghost use Rattle.meter_month.specs.Month.{gramsOf, destroyedOf, recorded, isMonth, areHours, areFeetHours, firstRefused, hoursOf, monthOf, feetMonthOf};
+ghost use Rattle.meter_month.specs.Asks.{AsLong, AllAsLong, Holds, hourIn};
 use meter_hour::Hour;
 use meter_hour::Kind;
 use refusals::Refusal;
@@ -28,23 +28,48 @@ pub fn month(flows: &[f32], contents: &[f32], states: &[u8], efficiency: u32) ->
     if !are_hours(flows.len(), contents.len(), states.len()) {
         return refused(refusals::NO_MONTH, 0);
     }
-    if meter_hour::WHOLE_EFFICIENCY < efficiency {
-        return refused(refusals::OUT_OF_RANGE, 0);
-    }
-    let hours = states.len();
-    let mut litres = [0u64; meter_series::MOST_HOURS];
-    let mut hundredths = [0u64; meter_series::MOST_HOURS];
-    let hour = record_hours(flows, contents, states, &mut litres, &mut hundredths);
-    if hour < hours {
-        return refused(refusals::BAD_HOUR, hour);
-    }
-    MonthAnswer::Destroyed(destroyed(
+    // Such a meter has no temperatures and no pressures; what stands for them here is not looked at.
+    of_hours(
         Kind::CubicMetres,
-        efficiency,
+        flows,
+        contents,
+        flows,
+        flows,
         states,
-        &litres[..hours],
-        &hundredths[..hours],
-    ))
+        efficiency,
+    )
+}
+
+// The month of a meter in cubic feet.
+pub fn feet_month(
+    flows: &[f32],
+    contents: &[f32],
+    temperatures: &[f32],
+    pressures: &[f32],
+    states: &[u8],
+    efficiency: u32,
+) -> MonthAnswer
+    ensures { λ r. ⌜ r ≡ feetMonthOf (now (flows .entry)) (now (contents .entry)) (now (temperatures .entry)) (now (pressures .entry))
+        (now (states .entry)) efficiency ⌝ }
+{
+    if !are_feet_hours(
+        flows.len(),
+        contents.len(),
+        temperatures.len(),
+        pressures.len(),
+        states.len(),
+    ) {
+        return refused(refusals::NO_MONTH, 0);
+    }
+    of_hours(
+        Kind::CubicFeet,
+        flows,
+        contents,
+        temperatures,
+        pressures,
+        states,
+        efficiency,
+    )
 }
 
 fn refused(number: u8, place: usize) -> MonthAnswer
@@ -53,14 +78,30 @@ fn refused(number: u8, place: usize) -> MonthAnswer
     MonthAnswer::Refused(Refusal { number, place })
 }
 
-// Whether each hour has its three values, and the hours are those of a month.
-fn are_hours(flows: usize, contents: usize, states: usize) -> bool
-    ensures { λ r. ⌜ r ≡ areHours flows contents states ⌝ }
+// Whether each hour of a meter in cubic feet has its five values, and the hours are those of a month.
+fn are_feet_hours(
+    flows: usize,
+    contents: usize,
+    temperatures: usize,
+    pressures: usize,
+    states: usize,
+) -> bool
+    ensures { λ r. ⌜ r ≡ areFeetHours flows contents temperatures pressures states ⌝ }
 {
-    if flows != states {
+    if !are_hours(flows, contents, states) {
         return false;
     }
-    if contents != states {
+    are_hours(temperatures, pressures, states)
+}
+
+// Whether each hour has two readings and a state, and the hours are those of a month.
+fn are_hours(readings: usize, others: usize, states: usize) -> bool
+    ensures { λ r. ⌜ r ≡ areHours readings others states ⌝ }
+{
+    if readings != states {
+        return false;
+    }
+    if others != states {
         return false;
     }
     is_month(states)
@@ -76,31 +117,102 @@ fn is_month(hours: usize) -> bool
     }
 }
 
-// Lays what each hour recorded into two series, up to the first hour that is refused: that hour, or the number of hours.
-fn record_hours(
+// The month of a meter of either kind, whose lists are as long as a month.
+fn of_hours(
+    kind: Kind,
     flows: &[f32],
     contents: &[f32],
+    temperatures: &[f32],
+    pressures: &[f32],
     states: &[u8],
-    litres: &mut [u64],
+    efficiency: u32,
+) -> MonthAnswer
+    requires { ⌜ AllAsLong (length (now flows)) (length (now contents)) (length (now temperatures)) (length (now pressures)) (length (now states)) ⌝ }
+    ensures { λ r. ⌜ r ≡ hoursOf kind efficiency (now (states .entry))
+        (hourIn kind (now (flows .entry)) (now (contents .entry)) (now (temperatures .entry)) (now (pressures .entry)) (now (states .entry))) ⌝ }
+{
+    if meter_hour::WHOLE_EFFICIENCY < efficiency {
+        return refused(refusals::OUT_OF_RANGE, 0);
+    }
+    let hours = states.len();
+    let mut counted = [0u64; meter_series::MOST_HOURS];
+    let mut hundredths = [0u64; meter_series::MOST_HOURS];
+    let hour = record_hours(
+        kind,
+        flows,
+        contents,
+        temperatures,
+        pressures,
+        states,
+        &mut counted,
+        &mut hundredths,
+    );
+    if hour < hours {
+        return refused(refusals::BAD_HOUR, hour);
+    }
+    MonthAnswer::Destroyed(destroyed(
+        kind,
+        efficiency,
+        states,
+        &counted[..hours],
+        &hundredths[..hours],
+    ))
+}
+
+// Lays what each hour recorded into two series, up to the first hour that is refused: that hour, or the number of hours.
+fn record_hours(
+    kind: Kind,
+    flows: &[f32],
+    contents: &[f32],
+    temperatures: &[f32],
+    pressures: &[f32],
+    states: &[u8],
+    counted: &mut [u64],
     hundredths: &mut [u64],
 ) -> usize
-    requires { ⌜ AsLong (length (now flows)) (length (now contents)) (length (now states)) ⌝ }
-    requires { ⌜ (length (now states) ≤ length (now litres)) × (length (now states) ≤ length (now hundredths)) ⌝ }
-    ensures { λ r. ⌜ r ≡ firstRefused (now (flows .entry)) (now (contents .entry)) (now (states .entry)) ⌝ }
-    ensures { λ r. ⌜ Holds (now (litres .exit)) r (recorded flowOf (now (flows .entry)) (now (contents .entry)) (now (states .entry))) ⌝ }
-    ensures { λ r. ⌜ Holds (now (hundredths .exit)) r (recorded contentOf (now (flows .entry)) (now (contents .entry)) (now (states .entry))) ⌝ }
+    requires { ⌜ AllAsLong (length (now flows)) (length (now contents)) (length (now temperatures)) (length (now pressures)) (length (now states)) ⌝ }
+    requires { ⌜ (length (now states) ≤ length (now counted)) × (length (now states) ≤ length (now hundredths)) ⌝ }
+    ensures { λ r. ⌜ r ≡ firstRefused
+        (hourIn kind (now (flows .entry)) (now (contents .entry)) (now (temperatures .entry)) (now (pressures .entry)) (now (states .entry)))
+        (length (now (states .entry))) ⌝ }
+    ensures { λ r. ⌜ Holds (now (counted .exit)) r (recorded flowOf
+        (hourIn kind (now (flows .entry)) (now (contents .entry)) (now (temperatures .entry)) (now (pressures .entry)) (now (states .entry)))) ⌝ }
+    ensures { λ r. ⌜ Holds (now (hundredths .exit)) r (recorded contentOf
+        (hourIn kind (now (flows .entry)) (now (contents .entry)) (now (temperatures .entry)) (now (pressures .entry)) (now (states .entry)))) ⌝ }
 {
     let mut hour = 0;
     while hour < states.len() {
-        let recorded = meter_hour::recorded_at(flows, contents, states, hour);
+        let recorded = recorded_at(kind, flows, contents, temperatures, pressures, states, hour);
         let Hour::Taken(flow, content) = recorded else {
             return hour;
         };
-        litres[hour] = meter_series::cell(flow);
+        counted[hour] = meter_series::cell(flow);
         hundredths[hour] = meter_series::cell(content);
         hour += 1;
     }
     hour
+}
+
+// What an hour, from 0, of a meter of either kind records, or that it is refused.
+fn recorded_at(
+    kind: Kind,
+    flows: &[f32],
+    contents: &[f32],
+    temperatures: &[f32],
+    pressures: &[f32],
+    states: &[u8],
+    hour: usize,
+) -> Hour
+    requires { ⌜ (hour < length (now flows)) × (hour < length (now contents)) × (hour < length (now temperatures))
+        × (hour < length (now pressures)) × (hour < length (now states)) ⌝ }
+    ensures { λ r. ⌜ r ≡ hourIn kind (now (flows .entry)) (now (contents .entry)) (now (temperatures .entry)) (now (pressures .entry)) (now (states .entry)) hour ⌝ }
+{
+    match kind {
+        Kind::CubicMetres => meter_hour::recorded_at(flows, contents, states, hour),
+        Kind::CubicFeet => {
+            meter_feet::recorded_at(flows, contents, temperatures, pressures, states, hour)
+        }
+    }
 }
 
 // Grams destroyed in a month, by what each hour recorded: the gaps are filled, and the hours summed.

@@ -6,7 +6,7 @@ use Prim.Native.Nat.{ℕ, suc, _+_, _-_, _*_, _/_, _%_, _^_, _≤_, _<_, min}
 use native.Mathlib.Nat.{le-trans, le-of-eq, lt-of-le-of-lt, lt-of-lt-of-le, lt-irrefl, lt-of-not-le, one-mul, zero-mul, mul-comm, mul-assoc, mul-right-comm, mul-pos, mul-le-mul-right, mod-lt, le-div-iff-mul-le, div-le-of-le-mul, div-div-eq-div-mul, zero-div}
 use native.Mathlib.Omega.{arith}
 use lib.IntN.{ℤ}
-use lib.Dec.{T, leb→le, eqb→eq}
+use lib.Dec.{T}
 use lib.Pow.{pow-add, pow-pos, pow-mono, pow-lt, shr-shr}
 use lib.Bits.{bitAnd, bitOr, and-mask, or-shifted-r}
 use lib.Ieee.{Float, nan, inf, fin, binary64, up, down, size, le, isNan, toBits, toUnsigned}
@@ -15,7 +15,8 @@ use lib.Ieee.Fits.{down-pos, kept-lt}
 use lib.Ieee.Nearest.{div-same}
 use lib.Ieee.Positive.{le→cross, above-of-le}
 use Rattle.std.proofs.num.Truncating.{one, below-one}
-use Rattle.meter_reading.specs.Exact.{timesDown, isUpTo}
+use Rattle.meter_reading.specs.Exact.{timesDown, isBetween}
+use Rattle.meter_reading.proofs.Between.{high, is-zero}
 
 pow-lt-back : (i p : ℕ) → 2 ^ i < 2 ^ p → i < p
 pow-lt-back i p h = lt-of-not-le (λ (g : p ≤ i). lt-irrefl (2 ^ i) (lt-of-lt-of-le h (pow-mono g)))
@@ -91,23 +92,23 @@ cut-fin m e lo hi =
     let p = pattern n n-lo n-hi in
     (tt, p .0, p .1, p .2 ∙ whole-units a d (down-pos e) ∙ ap (λ (z : ℕ). z / d) (sym (one-mul a)))
 
-pub cut : (x : Float) → T (isUpTo (2 ^ 52) x) → T (le one x) → Cut x (toBits binary64 x)
-unfolding isUpTo
+pub cut : (x : Float) → T (isBetween 0 (2 ^ 52) x) → T (le one x) → Cut x (toBits binary64 x)
+unfolding isBetween
 cut nan u h = absurd u
 cut (inf s) u h = absurd u
 cut (fin true m e) u h = absurd (above-of-le one (fin true m e) tt h)
 cut (fin false m e) u h =
-    cut-fin m e (tidy (down e) (m * up e) (le→cross one (fin false m e) tt (above-of-le one (fin false m e) tt h) h)) (leb→le (m * up e) (2 ^ 52 * down e) u)
+    cut-fin m e (tidy (down e) (m * up e) (le→cross one (fin false m e) tt (above-of-le one (fin false m e) tt h) h)) (high 0 (2 ^ 52) m e u)
 
 -- ---- below 1
 no-whole : (n c : ℕ) → 0 < c → 0 ≡ min n c → n ≡ 0
 no-whole n c C h = omega arith
 
-pub none : (x : Float) → T (isUpTo (2 ^ 52) x) → T (not (le one x)) → 0 ≡ timesDown 1 x
-unfolding isUpTo timesDown toUnsigned
+pub none : (x : Float) → T (isBetween 0 (2 ^ 52) x) → T (not (le one x)) → 0 ≡ timesDown 1 x
+unfolding isBetween timesDown toUnsigned
 none nan u h = absurd u
 none (inf s) u h = absurd u
-none (fin true m e) u h = sym (ap (λ (z : ℕ). 1 * (z * up e) / down e) (eqb→eq m 0 u) ∙ ap (λ (z : ℕ). 1 * z / down e) (zero-mul (up e)) ∙ zero-div (down e))
+none (fin true m e) u h = sym (ap (λ (z : ℕ). 1 * (z * up e) / down e) (is-zero 0 (2 ^ 52) m e u) ∙ ap (λ (z : ℕ). 1 * z / down e) (zero-mul (up e)) ∙ zero-div (down e))
 none (fin false m e) u h = sym (ap (λ (z : ℕ). z / down e) (one-mul (m * up e)) ∙ small (below-one 64 (fin false m e) h))
   where
     small : 0 ≡ toUnsigned 64 (fin false m e) → m * up e / down e ≡ 0

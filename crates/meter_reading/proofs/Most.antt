@@ -1,30 +1,38 @@
--- A number from 0 to b, times k and rounded down, is at most k times b.
+-- A number from a to b, times k and rounded down, is from k times a to k times b.
 -- Assumes nothing.
-use mathlib.Core.Path.{_≡_, refl, sym, _∙_}
+use mathlib.Core.Path.{_≡_, sym, _∙_, subst}
 use mathlib.Core.Bool.{Bool, true, false, cond}
 use Prim.Native.Nat.{ℕ, _*_, _≤_}
-use native.Mathlib.Nat.{mul-le-mul-left, mul-assoc, mul-comm, mul-zero, zero-mul, div-le-of-le-mul, le-trans, le-of-eq}
+use native.Mathlib.Nat.{mul-le-mul-left, mul-assoc, mul-comm, mul-zero, zero-mul, div-le-of-le-mul, le-div-iff-mul-le, le-trans, le-of-eq}
 use native.Mathlib.Omega.{arith}
-use borrow.Author.Tests.{leb-true, eqb-true}
+use lib.Dec.{T}
 use lib.Ieee.{Float, nan, inf, fin, up, down}
+use lib.Ieee.Fits.{down-pos}
 use Rattle.meter_reading.specs.declared.Measure.the-variants.{Whole, TurnedDown}
-use Rattle.meter_reading.specs.Exact.{timesDown, isUpTo, scaledOf}
+use Rattle.meter_reading.specs.Exact.{timesDown, isBetween, scaledOf}
+use Rattle.meter_reading.proofs.Between.{low, high, zero-low, is-zero}
 
-times-most : (k b : ℕ) (x : Float) → isUpTo b x ≡ true → timesDown k x ≤ k * b
-unfolding isUpTo timesDown
-times-most k b nan t = omega arith
-times-most k b (inf s) t = omega arith
-times-most k b (fin true m e) t =
-    let z : m ≡ 0 = eqb-true m 0 t in
-    div-le-of-le-mul (down e) (rw (z, zero-mul (up e), mul-zero k) (omega arith))
-times-most k b (fin false m e) t =
-    div-le-of-le-mul (down e)
-    (le-trans (mul-le-mul-left k (leb-true (m * up e) (b * down e) t)) (le-of-eq (sym (mul-assoc k b (down e)) ∙ mul-comm (k * b) (down e))))
+-- what the definition's parts say of its result
+abbrev Within : ℕ → ℕ → ℕ → ℕ → Type 0
+Within k a b n = (k * a ≤ n) × (n ≤ k * b)
 
-picked-most : (t : Bool) (v n m : ℕ) → (t ≡ true → v ≤ m) → cond t (Whole v) TurnedDown ≡ Whole n → n ≤ m
-picked-most true v n m h e = let z : v ≡ n = cc in omega (arith, h refl)
-picked-most false v n m h e = let z : _≡_ {A = ℕ} 0 1 = cc in absurd (omega arith)
+times-within : (k a b : ℕ) (x : Float) → T (isBetween a b x) → Within k a b (timesDown k x)
+unfolding isBetween timesDown
+times-within k a b nan t = absurd t
+times-within k a b (inf s) t = absurd t
+times-within k a b (fin true m e) t = (
+  rw (zero-low a b m e t, mul-zero k) (omega arith),
+  div-le-of-le-mul (down e) (rw (is-zero a b m e t, zero-mul (up e), mul-zero k) (omega arith)),
+)
+times-within k a b (fin false m e) t = (
+  le-div-iff-mul-le (down-pos e) .1 (le-trans (le-of-eq (mul-assoc k a (down e))) (mul-le-mul-left k (low a b m e t))),
+  div-le-of-le-mul (down e) (le-trans (mul-le-mul-left k (high a b m e t)) (le-of-eq (sym (mul-assoc k b (down e)) ∙ mul-comm (k * b) (down e)))),
+)
 
-pub scaled-most : (k b : ℕ) (x : Float) (n : ℕ) → scaledOf k b x ≡ Whole n → n ≤ k * b
+picked : (t : Bool) (k a b v n : ℕ) → (T t → Within k a b v) → cond t (Whole v) TurnedDown ≡ Whole n → Within k a b n
+picked true k a b v n h e = let z : v ≡ n = cc in subst (Within k a b) z (h tt)
+picked false k a b v n h e = let z : _≡_ {A = ℕ} 0 1 = cc in absurd (omega arith)
+
+pub scaled-within : (k a b : ℕ) (x : Float) (n : ℕ) → scaledOf k a b x ≡ Whole n → Within k a b n
 unfolding scaledOf
-scaled-most k b x n e = picked-most (isUpTo b x) (timesDown k x) n (k * b) (times-most k b x) e
+scaled-within k a b x n e = picked (isBetween a b x) k a b (timesDown k x) n (times-within k a b x) e

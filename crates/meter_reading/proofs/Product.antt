@@ -6,14 +6,15 @@ use Prim.Native.Nat.{ℕ, zero, suc, _+_, _-_, _*_, _/_, _%_, _^_, _≤_, _<_}
 use native.Mathlib.Nat.{le-trans, le-of-eq, le-of-lt, lt-of-le-of-lt, lt-of-lt-of-le, lt-irrefl, lt-of-not-le, le-of-suc-le-suc, zero-lt-suc, zero-mul, one-mul, mul-one, mul-comm, mul-assoc, mul-left-comm, mul-right-comm, mul-pos, mul-le-mul, mul-le-mul-right, le-of-mul-le-mul-right}
 use native.Mathlib.Omega.{arith}
 use lib.IntN.{ℤ, pos, negsuc}
-use lib.Dec.{T, leb, ltb, eqb, ltb→lt, leb→le, le→leb, eqb→eq, lit≤}
+use lib.Dec.{T, leb, ltb, eqb, ltb→lt, leb→le, lit≤}
 use lib.Pow.{pow-add, pow-pos, pow-mono, pow-lt, shl-lt}
 use lib.Ieee.{Float, nan, inf, fin, binary32, binary64, up, down, unlike, round, mul, fits}
-use lib.Ieee.Fits.{and-l, and-r, up-pos, down-pos, eq→eqb}
+use lib.Ieee.Fits.{and-l, and-r, up-pos, down-pos}
 use lib.Ieee.Exact.{HasValue, round-exact}
 use lib.Ieee.Scale.{round-same}
 use lib.Ieee.Nearest.{div-same}
-use Rattle.meter_reading.specs.Exact.{timesDown, isUpTo}
+use Rattle.meter_reading.specs.Exact.{timesDown, isBetween}
+use Rattle.meter_reading.proofs.Between.{inside, high, zero-inside, is-zero}
 
 -- ---- what an `f32` above or below zero is: 24 digits, 2 ^ -149 at least, below 2 ^ 128
 abbrev Held : ℕ → ℤ → Type 0
@@ -92,19 +93,21 @@ exact s m e (fin false n d) k F h K =
     ∙ round-same binary64 s (m * up e * (n * up d)) (down e * down d) (m * up e * k) (down e) (mul-pos (down-pos e) (down-pos d)) (down-pos e) (scaled-same (m * up e) (n * up d) (down e) (down d) k (h .1))))
     (any s k K m e F)
 
--- ---- from a value to `isUpTo` and `timesDown`
+-- ---- from a value to `isBetween` and `timesDown`
 pub no-size : (m : ℕ) (u : ℕ) → 0 < u → m * u ≡ 0 → m ≡ 0
 no-size zero u h e = refl
 no-size (suc m) u h e = absurd (lt-irrefl 0 (subst (λ (z : ℕ). 0 < z) e (mul-pos (zero-lt-suc m) h)))
 
-up-to-of-value : (p : Float) (s : Bool) (a c w : ℕ) → 0 < c → HasValue p s a c → (T s → a ≡ 0) → a ≤ w * c → T (isUpTo w p)
-unfolding isUpTo
+up-to-of-value : (p : Float) (s : Bool) (a c w : ℕ) → 0 < c → HasValue p s a c → (T s → a ≡ 0) → a ≤ w * c → T (isBetween 0 w p)
 up-to-of-value nan s a c w C h z l = absurd h
 up-to-of-value (inf t) s a c w C h z l = absurd h
-up-to-of-value (fin true m e) s a c w C h z l = eq→eqb (no-size m (up e) (up-pos e) (no-size (m * up e) c C (h .1 ∙ ap (λ (n : ℕ). n * down e) (z (subst T (h .0) tt)) ∙ zero-mul (down e))))
+up-to-of-value (fin true m e) s a c w C h z l = zero-inside 0 w m e refl (no-size m (up e) (up-pos e) (no-size (m * up e) c C (h .1 ∙ ap (λ (n : ℕ). n * down e) (z (subst T (h .0) tt)) ∙ zero-mul (down e))))
 up-to-of-value (fin false m e) s a c w C h z l =
-    le→leb (m * up e) (w * down e)
+    inside 0 w m e (least (down e) (m * up e))
     (le-of-mul-le-mul-right (le-trans (le-of-eq (h .1)) (le-trans (mul-le-mul-right (down e) l) (le-of-eq (mul-right-comm w c (down e))))) C)
+  where
+    least : (d n : ℕ) → 0 * d ≤ n
+    least d n = omega arith
 
 floor-of-value : (p : Float) (s : Bool) (a c : ℕ) → 0 < c → HasValue p s a c → timesDown 1 p ≡ a / c
 unfolding timesDown
@@ -112,24 +115,24 @@ floor-of-value nan s a c C h = absurd h
 floor-of-value (inf t) s a c C h = absurd h
 floor-of-value (fin t m e) s a c C h = ap (λ (z : ℕ). z / down e) (one-mul (m * up e)) ∙ div-same (m * up e) (down e) a c (down-pos e) C (h .1)
 
--- k times an x from 0 to b, as an `f64`: it is at most 2 ^ 52, and its whole part is that of the exact product
-pub product : (x y : Float) (k b : ℕ) → T (fits binary32 x) → T (isUpTo b x) → HasValue y false k 1 → k < 2 ^ 28 → b ≤ 2 ^ 24
-    → T (isUpTo (2 ^ 52) (mul binary64 x y)) × (timesDown 1 (mul binary64 x y) ≡ timesDown k x)
-unfolding isUpTo timesDown
-product nan y k b F G h K B = absurd G
-product (inf s) y k b F G h K B = absurd G
-product (fin true m e) y k b F G h K B =
+-- k times an x from a to b, as an `f64`: it is at most 2 ^ 52, and its whole part is that of the exact product
+pub product : (x y : Float) (k a b : ℕ) → T (fits binary32 x) → T (isBetween a b x) → HasValue y false k 1 → k < 2 ^ 28 → b ≤ 2 ^ 24
+    → T (isBetween 0 (2 ^ 52) (mul binary64 x y)) × (timesDown 1 (mul binary64 x y) ≡ timesDown k x)
+unfolding isBetween timesDown
+product nan y k a b F G h K B = absurd G
+product (inf s) y k a b F G h K B = absurd G
+product (fin true m e) y k a b F G h K B =
     let v = exact true m e y k F h K in
-    let z : m * up e * k ≡ 0 = ap (λ (n : ℕ). n * up e * k) (eqb→eq m 0 G) ∙ ap (λ (n : ℕ). n * k) (zero-mul (up e)) ∙ zero-mul k in (
+    let z : m * up e * k ≡ 0 = ap (λ (n : ℕ). n * up e * k) (is-zero a b m e G) ∙ ap (λ (n : ℕ). n * k) (zero-mul (up e)) ∙ zero-mul k in (
       up-to-of-value (mul binary64 (fin true m e) y) true (m * up e * k) (down e) (2 ^ 52) (down-pos e) v (λ t. z) (le-trans (le-of-eq z) (least (2 ^ 52 * down e))),
       floor-of-value (mul binary64 (fin true m e) y) true (m * up e * k) (down e) (down-pos e) v ∙ ap (λ (n : ℕ). n / down e) (mul-comm (m * up e) k),
     )
   where
     least : (n : ℕ) → 0 ≤ n
     least n = omega arith
-product (fin false m e) y k b F G h K B =
+product (fin false m e) y k a b F G h K B =
     let v = exact false m e y k F h K in (
       up-to-of-value (mul binary64 (fin false m e) y) false (m * up e * k) (down e) (2 ^ 52) (down-pos e) v (λ t. absurd t)
-          (le-trans (mul-le-mul-right k (leb→le (m * up e) (b * down e) G)) (le-trans (le-of-eq (mul-right-comm b (down e) k)) (mul-le-mul-right (down e) (mul-le-mul B (le-of-lt K))))),
+          (le-trans (mul-le-mul-right k (high a b m e G)) (le-trans (le-of-eq (mul-right-comm b (down e) k)) (mul-le-mul-right (down e) (mul-le-mul B (le-of-lt K))))),
       floor-of-value (mul binary64 (fin false m e) y) false (m * up e * k) (down e) (down-pos e) v ∙ ap (λ (n : ℕ). n / down e) (mul-comm (m * up e) k),
     )

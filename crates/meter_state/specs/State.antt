@@ -12,9 +12,13 @@ readingOf state flow content =
     (cond (eqb (state % 4) 1) (NoFlow content)
     (cond (eqb (state % 4) 2) (NoContent flow) Neither))
 
--- 4 is added to the state when the device was out
+-- a part, 1, 2, 4 or 8, was added to the state
+abbrev pub has : ℕ → ℕ → Bool
+has part state = eqb (state / part % 2) 1
+
+-- 4 is added when the device was out
 abbrev pub isOut : ℕ → Bool
-isOut state = eqb (state / 4 % 2) 1
+isOut state = has 4 state
 
 -- hour h's state, h from 0; past the last hour neither value is there
 abbrev pub stateAt : List ℕ → ℕ → ℕ

@@ -2,7 +2,7 @@
 ghost use mathlib.Core.Path.{_≡_};
 ghost use Prim.Native.Nat.{_<_};
 ghost use lib.ListN.{length};
-ghost use Rattle.meter_state.specs.State.{isOut, readingAt};
+ghost use Rattle.meter_state.specs.State.{has, isOut, readingAt};
 
 // Flow and content, one of them, or nothing.
 pub enum Reading {
@@ -24,7 +24,15 @@ const NO_CONTENT: u8 = 2;
 pub fn is_out(state: u8) -> bool
     ensures { λ r. ⌜ r ≡ isOut state ⌝ }
 {
-    state / OUT % 2 == 1
+    has(state, OUT)
+}
+
+// Whether a part, 1, 2, 4 or 8, was added to a state.
+pub fn has(state: u8, part: u8) -> bool
+    requires { ⌜ 0 < part ⌝ }
+    ensures { λ r. ⌜ r ≡ has part state ⌝ }
+{
+    state / part % 2 == 1
 }
 
 // The reading of an hour, from 0.
