@@ -1,3 +1,4 @@
 pub mod Determined
 pub mod EachFloat
+pub mod Headers
 pub mod Long
