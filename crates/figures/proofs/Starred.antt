@@ -18,12 +18,15 @@ use Rattle.lagoon_month.specs.declared.Outcome.{Outcome}
 use Rattle.lagoon_month.specs.Month.{enteredOf, emptyOf, outcomeOf}
 use Rattle.year_months.specs.Series.{yearAt, overYear}
 use Rattle.meter_reading.specs.declared.Measure.the-variants.{Whole}
-use Rattle.meter_reading.specs.Exact.{isUpTo, timesDown, scaledOf, hundredthsOf}
+use Rattle.meter_reading.specs.Exact.{isBetween, timesDown, scaledOf, hundredthsOf}
 use Rattle.meter_state.specs.State.{readingOf}
 use Rattle.laws.specs.Counting.{sum}
 use Rattle.meter_series.specs.Series.{amount}
 use Rattle.meter_gaps.specs.Filling.{filled}
 use Rattle.meter_hour.specs.Hour.{recordedOf, hourAt, gramsIn, hourOf}
+use Rattle.meter_hour.specs.declared.Kind.the-variants.{CubicMetres, CubicFeet}
+use Rattle.meter_feet.specs.Feet as Feet
+use Rattle.meter_feet.specs.Feet.{correctedOf, flowIn, contentIn, hourAt as feetHourAt}
 use Rattle.meter_month.specs.Month.{gramsOf, destroyedOf, meteredOf}
 
 -- table solids 1000, mass 6000, share 10,000, by the sum of a year's heads, in a month counted from January 2011
@@ -59,7 +62,12 @@ nearest n d = round binary32 false n d
 
 -- an hour by itself at flow 100.0 and content 60.0, both present
 abbrev pub hour : ℕ → ℕ
-hour efficiency = meteredOf (nearest 100 1 ∷ []) (nearest 60 1 ∷ []) (0 ∷ []) efficiency
+hour efficiency = meteredOf CubicMetres efficiency (0 ∷ []) (hourAt (nearest 100 1 ∷ []) (nearest 60 1 ∷ []) (0 ∷ []))
+
+-- an hour in cubic feet by itself at content 60.0, with its flow, temperature and pressure
+abbrev pub feetHour : Float → Float → Float → ℕ
+feetHour flow temperature pressure =
+    meteredOf CubicFeet 10000 (0 ∷ []) (feetHourAt (flow ∷ []) (nearest 60 1 ∷ []) (temperature ∷ []) (pressure ∷ []) (0 ∷ []))
 
 pub record Starred : Type 0 where
   pub enters-31-days : herd 1 ≡ solids 14880000
@@ -85,6 +93,10 @@ pub record Starred : Type 0 where
   pub hour-destroyed : hour 10000 ≡ 40800
   pub hour-at-9800 : hour 9800 ≡ 39984
   pub content-60·1 : hundredthsOf (nearest 601 10) ≡ Whole 6009
+  -- in cubic feet (02, (iii)): at 520 degrees and 1 atm, at 2.5 atm, and at 519.99 degrees, which in f32 are 51,998 hundredths
+  pub feet-hour : feetHour (nearest 100 1) (nearest 520 1) (nearest 1 1) ≡ 1152
+  pub feet-hour-at-2·5-atm : feetHour (nearest 100 1) (nearest 520 1) (nearest 25 10) ≡ 2880
+  pub feet-hour-at-519·99-degrees : feetHour (nearest 400000 1) (nearest 51999 100) (nearest 1 1) ≡ 4609185
 
 -- What wrong readings would give for the two with unequal heads: the month's own count, twelve times; the average rounded down before it is multiplied; and
 -- for the second the heads of the first year. None is what the definitions give.
@@ -120,7 +132,7 @@ unfolding enteredOf daysOf goneOf lengthOf lengthsOf februaryOf leapOf sum
 spread = record { in-january-2011 = refl; in-january-2012 = refl }
 
 pub starred : Starred
-unfolding enteredOf outcomeOf daysOf goneOf lengthOf lengthsOf februaryOf leapOf factorOf ruledOf summedOf denominator added subtracted b0RuleOf meteredOf destroyedOf gramsOf sum hourOf gramsIn amount hourAt recordedOf readingOf filled scaledOf isUpTo timesDown round
+unfolding enteredOf outcomeOf daysOf goneOf lengthOf lengthsOf februaryOf leapOf factorOf ruledOf summedOf denominator added subtracted b0RuleOf meteredOf destroyedOf gramsOf sum hourOf gramsIn amount hourAt recordedOf readingOf feetHourAt Feet.recordedOf flowIn contentIn correctedOf filled scaledOf isBetween timesDown round
 starred =
     record {
       enters-31-days = refl;
@@ -145,4 +157,7 @@ starred =
       hour-destroyed = refl;
       hour-at-9800 = refl;
       content-60·1 = refl;
+      feet-hour = refl;
+      feet-hour-at-2·5-atm = refl;
+      feet-hour-at-519·99-degrees = refl;
     }

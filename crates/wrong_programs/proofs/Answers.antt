@@ -23,7 +23,10 @@ use Rattle.book.proofs.Kept.{empty-slot}
 use Rattle.meter_state.specs.State.{readingOf}
 use Rattle.laws.specs.Counting.{firstFrom}
 use Rattle.meter_hour.specs.Hour.{recordedOf, hourAt, wholeEfficiency}
-use Rattle.meter_month.specs.Month.{meteredOf, monthOf}
+use Rattle.meter_hour.specs.declared.Kind.the-variants.{CubicMetres, CubicFeet}
+use Rattle.meter_feet.specs.Feet as Feet
+use Rattle.meter_feet.specs.Feet.{flowIn, contentIn, hourAt as feetHourAt}
+use Rattle.meter_month.specs.Month.{meteredOf, hoursOf, monthOf, feetMonthOf}
 use Rattle.meter_month.specs.declared.MonthAnswer.the-variants.{Destroyed}
 use Rattle.year.specs.Answer as Year
 use Rattle.year.specs.Figures.{figuresOf}
@@ -52,9 +55,21 @@ silent = replicate hours nan
 abbrev pub out : List ℕ
 out = replicate hours 7
 
-pub month-weighed : monthOf silent silent out wholeEfficiency ≡ Destroyed (methane (meteredOf silent silent out wholeEfficiency))
-unfolding monthOf hourAt recordedOf readingOf firstFrom
+pub month-weighed :
+    monthOf silent silent out wholeEfficiency
+    ≡ Destroyed (methane (meteredOf CubicMetres wholeEfficiency out (hourAt silent silent out)))
+unfolding monthOf hoursOf hourAt recordedOf readingOf firstFrom
 month-weighed = refl
+
+-- in cubic feet 8 is added where temperature or pressure is missing
+abbrev pub silentOut : List ℕ
+silentOut = replicate hours 15
+
+pub feet-month-weighed :
+    feetMonthOf silent silent silent silent silentOut wholeEfficiency
+    ≡ Destroyed (methane (meteredOf CubicFeet wholeEfficiency silentOut (feetHourAt silent silent silent silent silentOut)))
+unfolding feetMonthOf hoursOf feetHourAt Feet.recordedOf flowIn contentIn firstFrom
+feet-month-weighed = refl
 
 pub year-stated : (book : List ℕ) (year : ℕ) → Answered book year → Year.answerOf book year ≡ Stated (figuresOf book year)
 year-stated book year a =

@@ -8,8 +8,9 @@ use Rattle.lagoon_run.specs.Run.{runFrom, monthsOf}
 use Rattle.lagoon_run.proofs.run.Reads as Run
 use Rattle.book.specs.Book as Book
 use Rattle.book.proofs.post.Reads as Post
-use Rattle.meter_month.specs.Month.{monthOf}
+use Rattle.meter_month.specs.Month.{monthOf, feetMonthOf}
 use Rattle.meter_month.proofs.month.Reads as Month
+use Rattle.meter_month.proofs.feet_month.Reads as FeetMonth
 use Rattle.year.specs.Answer as Year
 use Rattle.year.proofs.year.Reads as YearReads
 
@@ -23,6 +24,11 @@ post-tells κ a x s told = told
 
 pub month-tells : Tells Month.Learnt (λ κ a x s. x ≡ monthOf (a .0 .now) (a .1 .0 .now) (a .1 .1 .0 .now) (a .1 .1 .1 .0))
 month-tells κ a x s told = told
+
+pub feet-month-tells :
+    Tells FeetMonth.Learnt
+    (λ κ a x s. x ≡ feetMonthOf (a .0 .now) (a .1 .0 .now) (a .1 .1 .0 .now) (a .1 .1 .1 .0 .now) (a .1 .1 .1 .1 .0 .now) (a .1 .1 .1 .1 .1 .0))
+feet-month-tells κ a x s told = told
 
 pub year-tells : Tells YearReads.Learnt (λ κ a x s. x ≡ Year.answerOf (a .0 .now) (a .1 .0))
 year-tells κ a x s told = told

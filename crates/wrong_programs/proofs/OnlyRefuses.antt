@@ -15,9 +15,9 @@ use Rattle.meter_month.specs.declared.MonthAnswer.{MonthAnswer}
 use Rattle.year_months.specs.Series.{firstYear}
 use Rattle.year.specs.declared.Answer as Answer
 use Rattle.year.specs.declared.Answer.{Answer}
-use Rattle.wrong_programs.proofs.Promise.{KeepsAnswers, KeepsMeter, KeepsYears, Answered}
+use Rattle.wrong_programs.proofs.Promise.{KeepsAnswers, KeepsMeter, KeepsFeetMeter, KeepsYears, Answered}
 use Rattle.wrong_programs.proofs.Records.{yearRecord}
-use Rattle.wrong_programs.proofs.Answers.{year-taken, silent, out, month-weighed, year-stated}
+use Rattle.wrong_programs.proofs.Answers.{year-taken, silent, out, month-weighed, silentOut, feet-month-weighed, year-stated}
 use Rattle.wrong_programs.proofs.WorkedBook.{made}
 use Rattle.wrong_programs.proofs.WorkedYear.{answered}
 
@@ -39,12 +39,19 @@ pub refuses-records : (answer : List ℕ → List ℕ → Posted) → ((book r :
 refuses-records answer refuses keeps =
     subst NotTaken (keeps emptyBook yearRecord empty-valid ∙ year-taken) (refuses emptyBook yearRecord empty-valid)
 
--- every month of a meter is refused
+-- every month of a meter is refused, of one in cubic metres or of one in cubic feet
 pub refuses-months :
     (month : List Float → List Float → List ℕ → ℕ → MonthAnswer) →
     ((flows contents : List Float) (states : List ℕ) (efficiency : ℕ) → NotWeighed (month flows contents states efficiency)) → KeepsMeter month → ⊥
 refuses-months month refuses keeps =
     subst NotWeighed (keeps silent silent out wholeEfficiency ∙ month-weighed) (refuses silent silent out wholeEfficiency)
+
+pub refuses-feet-months :
+    (month : List Float → List Float → List Float → List Float → List ℕ → ℕ → MonthAnswer) →
+    ((flows contents temperatures pressures : List Float) (states : List ℕ) (efficiency : ℕ) → NotWeighed (month flows contents temperatures pressures states efficiency)) →
+    KeepsFeetMeter month → ⊥
+refuses-feet-months month refuses keeps =
+    subst NotWeighed (keeps silent silent silent silent silentOut wholeEfficiency ∙ feet-month-weighed) (refuses silent silent silent silent silentOut wholeEfficiency)
 
 -- a year is refused that 01 gives no refusal; and every year is: there is such a year, the first of 01's worked example
 pub refuses-a-year : (answer : List ℕ → ℕ → Answer) (book : List ℕ) (year : ℕ) → Answered book year → NotStated (answer book year) → KeepsYears answer → ⊥

@@ -16,7 +16,7 @@ use Rattle.record_table.specs.Table.{categories}
 use Rattle.book.specs.Book as Book
 use Rattle.book.specs.Valid.{Valid}
 use Rattle.book.specs.declared.Posted.{Posted}
-use Rattle.meter_month.specs.Month.{monthOf}
+use Rattle.meter_month.specs.Month.{monthOf, feetMonthOf}
 use Rattle.meter_month.specs.declared.MonthAnswer.{MonthAnswer}
 use Rattle.year_months.specs.Asks.{InPeriod}
 use Rattle.year_needs.specs.Complete.{completeOf}
@@ -32,10 +32,15 @@ KeepsAnswers answer = (book r : List ℕ) → Valid book → answer book r ≡ B
 abbrev pub KeepsBooks : (List ℕ → List ℕ → List ℕ) → Type 0
 KeepsBooks after = (book r : List ℕ) → Valid book → after book r ≡ Book.bookAfter book r
 
--- the month of a meter
+-- the month of a meter in cubic metres, and of one in cubic feet
 abbrev pub KeepsMeter : (List Float → List Float → List ℕ → ℕ → MonthAnswer) → Type 0
 KeepsMeter month =
     (flows contents : List Float) (states : List ℕ) (efficiency : ℕ) → month flows contents states efficiency ≡ monthOf flows contents states efficiency
+
+abbrev pub KeepsFeetMeter : (List Float → List Float → List Float → List Float → List ℕ → ℕ → MonthAnswer) → Type 0
+KeepsFeetMeter month =
+    (flows contents temperatures pressures : List Float) (states : List ℕ) (efficiency : ℕ) →
+    month flows contents temperatures pressures states efficiency ≡ feetMonthOf flows contents temperatures pressures states efficiency
 
 -- the year
 abbrev pub KeepsYears : (List ℕ → ℕ → Answer) → Type 0
