@@ -4,6 +4,8 @@ use Rattle.cabinet.proofs.cabinet_empty.Reads as CabinetEmpty
 use Rattle.cabinet.proofs.cabinet_post.Reads as CabinetPost
 use Rattle.cabinet.proofs.cabinet_year.Reads as CabinetYear
 use Rattle.cabinet.proofs.cabinet_month.Reads as CabinetMonth
+use Rattle.cabinet.proofs.cabinet_feet_month.Reads as CabinetFeetMonth
+use Rattle.cabinet.proofs.cabinet_feet_hour.Reads as CabinetFeetHour
 use Rattle.cabinet.proofs.cabinet_litres.Reads as CabinetLitres
 use Rattle.cabinet.proofs.cabinet_hundredths.Reads as CabinetHundredths
 
@@ -18,6 +20,12 @@ cabinet-year-one κ a x y s t = one
 
 pub cabinet-month-one : OneAnswer CabinetMonth.Learnt
 cabinet-month-one κ a x y s t = one
+
+pub cabinet-feet-month-one : OneAnswer CabinetFeetMonth.Learnt
+cabinet-feet-month-one κ a x y s t = one
+
+pub cabinet-feet-hour-one : OneAnswer CabinetFeetHour.Learnt
+cabinet-feet-hour-one κ a x y s t = one
 
 pub cabinet-litres-one : OneAnswer CabinetLitres.Learnt
 cabinet-litres-one κ a x y s t = one

@@ -7,9 +7,11 @@ use Rattle.book.specs.Book.{bookBytes, emptyBook}
 use Rattle.book.specs.declared.Posted.{Posted, the-variants.Taken, the-variants.Refused as RefusedRecord}
 use Rattle.units.specs.Grams.{solids, co2e}
 use Rattle.year.specs.declared.{Answer.Answer, Answer.the-variants.Stated, Answer.the-variants.Refused as RefusedYear, Figures.Figures}
+use Rattle.meter_series.specs.Series.{isRecorded, amount}
+use Rattle.meter_hour.specs.declared.Hour.{Hour, the-variants.Taken as TakenHour, the-variants.Refused as RefusedHour}
 use Rattle.meter_month.specs.declared.MonthAnswer.{MonthAnswer, the-variants.Destroyed, the-variants.Refused as RefusedMonth}
 use Rattle.meter_reading.specs.declared.Measure.{Measure, the-variants.Whole, the-variants.TurnedDown}
-use Rattle.cabinet.specs.declared.{CabinetPosted.CabinetPosted, CabinetYear.CabinetYear, CabinetMonth.CabinetMonth, CabinetReading.CabinetReading}
+use Rattle.cabinet.specs.declared.{CabinetPosted.CabinetPosted, CabinetYear.CabinetYear, CabinetMonth.CabinetMonth, CabinetFeetHour.CabinetFeetHour, CabinetReading.CabinetReading}
 
 -- lent memory of a book's size
 abbrev pub sized : List ℕ → Bool
@@ -51,6 +53,11 @@ yearOf (RefusedYear refusal) = yearBy (refusal .number) (refusal .place) noFigur
 abbrev pub monthOf : MonthAnswer → CabinetMonth
 monthOf (Destroyed methane) = record { number = 0; place = 0; destroyed = methane .0 }
 monthOf (RefusedMonth refusal) = record { number = refusal .number; place = refusal .place; destroyed = 0 }
+
+-- one hour in cubic feet has no number of its own: where it is not taken, its month gives refusal 11. A value that is missing is said to be, and counts 0.
+abbrev pub feetHourOf : Hour → CabinetFeetHour
+feetHourOf (TakenHour flow content) = record { taken = true; «has_flow» = isRecorded flow; «has_content» = isRecorded content; flow = amount flow; content = amount content }
+feetHourOf RefusedHour = record { taken = false; «has_flow» = false; «has_content» = false; flow = 0; content = 0 }
 
 -- one reading has no number of its own: a month gives refusal 11 for it, at its hour
 abbrev pub readingOf : Measure → CabinetReading

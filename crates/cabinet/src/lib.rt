@@ -4,13 +4,18 @@ ghost use mathlib.Core.Path.{_≡_};
 ghost use Rattle.book.specs.Book.{answerOf, bookAfter};
 ghost use Rattle.book.specs.Valid.{Valid};
 ghost use Rattle.year.specs.Answer.{answerOf as yearAnswerOf};
-ghost use Rattle.meter_month.specs.Month.{monthOf as meterMonthOf};
+ghost use Rattle.meter_month.specs.Month.{monthOf as meterMonthOf, feetMonthOf};
+ghost use Rattle.meter_series.specs.Series.{amount};
+ghost use Rattle.meter_feet.specs.Feet.{recordedOf};
 ghost use Rattle.meter_reading.specs.Exact.{litresOf, hundredthsOf};
-ghost use Rattle.cabinet.specs.Face.{sized, emptied, postedOf, yearOf, monthOf, readingOf};
+ghost use Rattle.cabinet.specs.Face.{sized, emptied, postedOf, yearOf, monthOf, feetHourOf, readingOf};
 ghost use Rattle.year.specs.declared.Answer.the-variants.{Stated, Refused};
 use book::Posted;
+use meter_feet::Sample;
+use meter_hour::Hour;
 use meter_month::MonthAnswer;
 use meter_reading::Measure;
+use meter_series::Value;
 use refusals::Refusal;
 use year::Answer;
 use year::Figures;
@@ -54,6 +59,16 @@ pub struct CabinetMonth {
 pub struct CabinetReading {
     pub taken: bool,
     pub whole: u64,
+}
+
+// One hour of a meter in cubic feet: whether it is taken, and its flow and its content, where they are there.
+#[repr(C)]
+pub struct CabinetFeetHour {
+    pub taken: bool,
+    pub has_flow: bool,
+    pub has_content: bool,
+    pub flow: u64,
+    pub content: u64,
 }
 
 // Makes lent memory an empty book. Memory of another size than a book's is left as it is, and the answer is false.
@@ -153,7 +168,29 @@ pub extern "C" fn cabinet_month(
 ) -> CabinetMonth
     ensures { λ r. ⌜ r ≡ monthOf (meterMonthOf (now (flows .entry)) (now (contents .entry)) (now (states .entry)) efficiency) ⌝ }
 {
-    match meter_month::month(flows, contents, states, efficiency) {
+    metered(meter_month::month(flows, contents, states, efficiency))
+}
+
+// The month of one meter in cubic feet, for any lengths and any bytes.
+#[no_mangle]
+pub extern "C" fn cabinet_feet_month(
+    flows: &[f32],
+    contents: &[f32],
+    temperatures: &[f32],
+    pressures: &[f32],
+    states: &[u8],
+    efficiency: u32,
+) -> CabinetMonth
+    ensures { λ r. ⌜ r ≡ monthOf (feetMonthOf (now (flows .entry)) (now (contents .entry)) (now (temperatures .entry)) (now (pressures .entry))
+        (now (states .entry)) efficiency) ⌝ }
+{
+    metered(meter_month::feet_month(flows, contents, temperatures, pressures, states, efficiency))
+}
+
+fn metered(answer: MonthAnswer) -> CabinetMonth
+    ensures { λ r. ⌜ r ≡ monthOf answer ⌝ }
+{
+    match answer {
         MonthAnswer::Destroyed(methane) => CabinetMonth {
             number: NOT_REFUSED,
             place: 0,
@@ -164,6 +201,57 @@ pub extern "C" fn cabinet_month(
             place: refusal.place as u64,
             destroyed: 0,
         },
+    }
+}
+
+// One hour of a meter in cubic feet.
+#[no_mangle]
+pub extern "C" fn cabinet_feet_hour(
+    flow: f32,
+    content: f32,
+    temperature: f32,
+    pressure: f32,
+    state: u8,
+) -> CabinetFeetHour
+    ensures { λ r. ⌜ r ≡ feetHourOf (recordedOf (record { flow = flow; content = content; temperature = temperature; pressure = pressure }) state) ⌝ }
+{
+    let sample = Sample {
+        flow,
+        content,
+        temperature,
+        pressure,
+    };
+    recorded(meter_feet::recorded(sample, state))
+}
+
+fn recorded(hour: Hour) -> CabinetFeetHour
+    ensures { λ r. ⌜ r ≡ feetHourOf hour ⌝ }
+{
+    match hour {
+        Hour::Taken(flow, content) => CabinetFeetHour {
+            taken: true,
+            has_flow: meter_series::is_recorded(flow),
+            has_content: meter_series::is_recorded(content),
+            flow: amount(flow),
+            content: amount(content),
+        },
+        Hour::Refused => CabinetFeetHour {
+            taken: false,
+            has_flow: false,
+            has_content: false,
+            flow: 0,
+            content: 0,
+        },
+    }
+}
+
+// The number recorded, 0 where there is none.
+fn amount(value: Value) -> u64
+    ensures { λ r. ⌜ r ≡ amount value ⌝ }
+{
+    match value {
+        Value::Recorded(number) => number,
+        Value::Missing => 0,
     }
 }
 
