@@ -8,6 +8,7 @@
 pub mod book;
 pub mod calendar;
 pub mod factor;
+pub mod feet;
 pub mod lagoon;
 pub mod livestock;
 pub mod meter;

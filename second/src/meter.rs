@@ -1,4 +1,5 @@
-//! The month of one biogas meter.
+//! The month of one biogas meter: what the two kinds of meter share, and the
+//! kind that counts cubic metres.
 
 pub use crate::reading::{hundredths, litres};
 use crate::refusal::{Reason, Refusal};
@@ -8,37 +9,34 @@ const MOST_EFFICIENCY: u16 = 10_000;
 const LONGEST_FILLED: usize = 5;
 const HOURS_EACH_SIDE: usize = 4;
 
-const NO_FLOW: u8 = 1;
-const NO_CONTENT: u8 = 2;
+pub(crate) const NO_FLOW: u8 = 1;
+pub(crate) const NO_CONTENT: u8 = 2;
 const DEVICE_OUT: u8 = 4;
 const HIGHEST_STATE: u8 = 7;
 
 /// One value an hour, or none; entries past the month's hours are not used.
 type Hours = [Option<u32>; MOST_HOURS];
 
-/// Grams of methane destroyed in a month of hours, with the efficiency in
-/// ten-thousandths; or its refusal: 10, 4 and 11, in this order.
+/// What a meter recorded in one hour: its flow in the whole units of its kind,
+/// and the content in hundredths of a per cent.
+#[derive(Clone, Copy, Debug, PartialEq, Eq)]
+pub struct Hour {
+    pub flow: Option<u32>,
+    pub content: Option<u32>,
+}
+
+/// Grams of methane destroyed in a month of hours, with flows in cubic metres
+/// and the efficiency in ten-thousandths; or its refusal: 10, 4 and 11, in this
+/// order.
 pub fn month(
     flows: &[f32],
     contents: &[f32],
     states: &[u8],
     efficiency: u16,
 ) -> Result<u64, Refusal> {
-    let hours = states.len();
-    if !matches!(hours, 672 | 696 | 720 | 744) || flows.len() != hours || contents.len() != hours {
-        return Err(Refusal::of(Reason::NoSuchMonthOfHours));
-    }
-    if efficiency > MOST_EFFICIENCY {
-        return Err(Refusal::of(Reason::OutsideRange));
-    }
-    let (litres, contents) = recorded(flows, contents, states)?;
-    let litres = with_gaps_filled(&litres, hours);
-    let contents = with_gaps_filled(&contents, hours);
-    let mut sum = 0;
-    for ((&state, litres), content) in states.iter().zip(litres).zip(contents) {
-        sum += hour_destroyed(state, litres, content, efficiency);
-    }
-    Ok(sum)
+    looked_at(states.len(), [flows, contents], efficiency)?;
+    let recorded = recorded(states.len(), |at| hour(flows[at], contents[at], states[at]))?;
+    Ok(destroyed(&recorded, states, efficiency, methane_grams))
 }
 
 /// Grams of methane in an hour: the 68 is Equation 5.3's 0.68 kg per cubic
@@ -47,37 +45,87 @@ pub fn methane_grams(litres: u32, content: u32) -> u64 {
     u64::from(litres) * u64::from(content) * 68 / 1_000_000
 }
 
-fn hour_destroyed(state: u8, litres: Option<u32>, content: Option<u32>, efficiency: u16) -> u64 {
-    let neither = NO_FLOW | NO_CONTENT;
-    if state & DEVICE_OUT != 0 || state & neither == neither {
-        return 0;
+/// What an hour recorded, its flow in litres; or none where it is a bad hour.
+fn hour(flow: f32, content: f32, state: u8) -> Option<Hour> {
+    if state > HIGHEST_STATE {
+        return None;
     }
-    match (litres, content) {
-        (Some(litres), Some(content)) => {
-            methane_grams(litres, content) * u64::from(efficiency) / u64::from(MOST_EFFICIENCY)
-        }
-        _ => 0,
+    let mut recorded = Hour {
+        flow: None,
+        content: None,
+    };
+    if state & NO_FLOW == 0 {
+        recorded.flow = Some(litres(flow)?);
     }
+    if state & NO_CONTENT == 0 {
+        recorded.content = Some(hundredths(content)?);
+    }
+    Some(recorded)
 }
 
-/// The readings that are present, in litres and in hundredths. Those of hours
-/// when the device was out are readings like any other.
-fn recorded(flows: &[f32], contents: &[f32], states: &[u8]) -> Result<(Hours, Hours), Refusal> {
-    let mut all_litres = [None; MOST_HOURS];
-    let mut all_hundredths = [None; MOST_HOURS];
-    for (hour, &state) in states.iter().enumerate() {
-        let bad_hour = Refusal::at(Reason::BadHour, hour as u16);
-        if state > HIGHEST_STATE {
-            return Err(bad_hour);
+/// Refusals 10 and 4, of the lists of readings beside the states.
+pub(crate) fn looked_at<const LISTS: usize>(
+    hours: usize,
+    readings: [&[f32]; LISTS],
+    efficiency: u16,
+) -> Result<(), Refusal> {
+    let differs = readings.iter().any(|list| list.len() != hours);
+    if !matches!(hours, 672 | 696 | 720 | 744) || differs {
+        return Err(Refusal::of(Reason::NoSuchMonthOfHours));
+    }
+    if efficiency > MOST_EFFICIENCY {
+        return Err(Refusal::of(Reason::OutsideRange));
+    }
+    Ok(())
+}
+
+/// What a month recorded, hour by hour.
+pub(crate) struct Recorded {
+    flows: Hours,
+    contents: Hours,
+}
+
+/// The readings that are present, or refusal 11. Those of hours when the device
+/// was out are readings like any other.
+pub(crate) fn recorded(
+    hours: usize,
+    hour: impl Fn(usize) -> Option<Hour>,
+) -> Result<Recorded, Refusal> {
+    let mut all = Recorded {
+        flows: [None; MOST_HOURS],
+        contents: [None; MOST_HOURS],
+    };
+    for at in 0..hours {
+        let Hour { flow, content } = hour(at).ok_or(Refusal::at(Reason::BadHour, at as u16))?;
+        all.flows[at] = flow;
+        all.contents[at] = content;
+    }
+    Ok(all)
+}
+
+/// The month's sum, of whichever kind the meter is: `grams` are those of a flow
+/// and a content.
+pub(crate) fn destroyed(
+    recorded: &Recorded,
+    states: &[u8],
+    efficiency: u16,
+    grams: impl Fn(u32, u32) -> u64,
+) -> u64 {
+    let hours = states.len();
+    let flows = with_gaps_filled(&recorded.flows, hours);
+    let contents = with_gaps_filled(&recorded.contents, hours);
+    let mut sum = 0;
+    let recorded = recorded.flows.iter().zip(&recorded.contents);
+    let filled = flows.iter().zip(&contents);
+    for ((&state, recorded), filled) in states.iter().zip(recorded).zip(filled) {
+        if state & DEVICE_OUT != 0 || recorded == (&None, &None) {
+            continue;
         }
-        if state & NO_FLOW == 0 {
-            all_litres[hour] = Some(litres(flows[hour]).ok_or(bad_hour)?);
-        }
-        if state & NO_CONTENT == 0 {
-            all_hundredths[hour] = Some(hundredths(contents[hour]).ok_or(bad_hour)?);
+        if let (&Some(flow), &Some(content)) = filled {
+            sum += grams(flow, content) * u64::from(efficiency) / u64::from(MOST_EFFICIENCY);
         }
     }
-    Ok((all_litres, all_hundredths))
+    sum
 }
 
 /// Fills each maximal run of 1 to 5 missing values that has four recorded ones
@@ -103,7 +151,8 @@ fn missing_from(values: &[Option<u32>]) -> usize {
 }
 
 /// The whole average of the eight values around the run `start..end`, if all
-/// eight are recorded in this month.
+/// eight are recorded in this month. The largest value there is, 520,000,000
+/// hundredths of a standard cubic foot, makes eight that stay below 2^32.
 fn average_around(recorded: &[Option<u32>], start: usize, end: usize) -> Option<u32> {
     let before = recorded.get(start.checked_sub(HOURS_EACH_SIDE)?..start)?;
     let after = recorded.get(end..end + HOURS_EACH_SIDE)?;

@@ -5,6 +5,7 @@ use std::fmt;
 use std::io::{self, BufReader, ErrorKind, Read};
 
 use crate::book::Book;
+use crate::feet;
 use crate::meter;
 use crate::months::{lagoon_months, COLUMNS};
 use crate::record::RECORD_BYTES;
@@ -13,11 +14,20 @@ use crate::year::year;
 
 const LAST_YEAR: u32 = 10;
 
-/// `CM`, efficiency, and three counts.
-const MONTH_HEADER_BYTES: usize = 10;
+/// A mark of two bytes and the efficiency; the counts follow.
+const BEFORE_COUNTS: usize = 4;
+/// The lists of floats of a meter in cubic metres, and of one in cubic feet;
+/// either has a list of states after them.
+const METRES_LISTS: usize = 2;
+const FEET_LISTS: usize = 4;
 /// One more than the longest month input can say it has, since a byte too many
 /// decides the answer and those after it do not.
-const MONTH_BYTES_READ: u64 = MONTH_HEADER_BYTES as u64 + u16::MAX as u64 * 9 + 1;
+const MONTH_BYTES_READ: u64 =
+    header_bytes(FEET_LISTS) as u64 + u16::MAX as u64 * (4 * FEET_LISTS as u64 + 1) + 1;
+
+const fn header_bytes(lists: usize) -> usize {
+    BEFORE_COUNTS + 2 * (lists + 1)
+}
 
 /// What keeps a program from giving any answer. A refusal is an answer.
 #[derive(Debug)]
@@ -112,25 +122,44 @@ pub fn month(input: impl Read) -> Result<Vec<u8>, Unreadable> {
     Ok(answer.into_bytes())
 }
 
+const NO_MONTH: Refusal = Refusal::of(Reason::NoSuchMonthOfHours);
+
 fn lent_month(bytes: &[u8]) -> Result<u64, Refusal> {
-    const NO_MONTH: Refusal = Refusal::of(Reason::NoSuchMonthOfHours);
-    let mark = bytes.get(..2).ok_or(NO_MONTH)?;
-    if mark != b"CM" {
-        return Err(Refusal::of(Reason::UnknownMark));
+    match bytes.get(..2).ok_or(NO_MONTH)? {
+        b"CM" => {
+            let (efficiency, lists, states) = lent_hours::<METRES_LISTS>(bytes)?;
+            let [flows, contents] = &lists;
+            meter::month(flows, contents, states, efficiency)
+        }
+        b"CF" => {
+            let (efficiency, lists, states) = lent_hours::<FEET_LISTS>(bytes)?;
+            let [flows, contents, temperatures, pressures] = &lists;
+            feet::month(flows, contents, temperatures, pressures, states, efficiency)
+        }
+        _ => Err(Refusal::of(Reason::UnknownMark)),
     }
-    let (header, rest) = bytes.split_at_checked(MONTH_HEADER_BYTES).ok_or(NO_MONTH)?;
+}
+
+/// The efficiency, so many lists of floats, and the states: as long as the
+/// counts say, and nothing after them.
+fn lent_hours<const LISTS: usize>(
+    bytes: &[u8],
+) -> Result<(u16, [Vec<f32>; LISTS], &[u8]), Refusal> {
+    let (header, mut rest) = bytes
+        .split_at_checked(header_bytes(LISTS))
+        .ok_or(NO_MONTH)?;
     let number = |offset| u16::from_le_bytes([header[offset], header[offset + 1]]);
-    let (efficiency, flows, contents, states) = (number(2), number(4), number(6), number(8));
-    let (flows, rest) = rest
-        .split_at_checked(4 * usize::from(flows))
-        .ok_or(NO_MONTH)?;
-    let (contents, rest) = rest
-        .split_at_checked(4 * usize::from(contents))
-        .ok_or(NO_MONTH)?;
-    if rest.len() != usize::from(states) {
+    let count = |list| usize::from(number(BEFORE_COUNTS + 2 * list));
+    let mut lists = [const { Vec::new() }; LISTS];
+    for (at, list) in lists.iter_mut().enumerate() {
+        let (values, after) = rest.split_at_checked(4 * count(at)).ok_or(NO_MONTH)?;
+        *list = floats(values);
+        rest = after;
+    }
+    if rest.len() != count(LISTS) {
         return Err(NO_MONTH);
     }
-    meter::month(&floats(flows), &floats(contents), rest, efficiency)
+    Ok((number(2), lists, rest))
 }
 
 fn floats(bytes: &[u8]) -> Vec<f32> {

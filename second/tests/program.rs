@@ -118,19 +118,29 @@ fn reading_stops_at_a_posting_refusal() {
     assert_eq!(output, b"refused 5 at 0\n");
 }
 
-fn month_input(efficiency: u16, flows: &[f32], contents: &[f32], states: &[u8]) -> Vec<u8> {
-    let counts = [flows.len(), contents.len(), states.len()].map(|count| count as u16);
-    let mut input = b"CM".to_vec();
+/// The lists of floats, in the order of the counts, and the states.
+fn input_of(mark: &[u8; 2], efficiency: u16, lists: &[&[f32]], states: &[u8]) -> Vec<u8> {
+    let mut input = mark.to_vec();
     input.extend(efficiency.to_le_bytes());
-    input.extend(counts.iter().flat_map(|count| count.to_le_bytes()));
-    input.extend(
-        flows
-            .iter()
-            .chain(contents)
-            .flat_map(|reading| reading.to_le_bytes()),
-    );
+    for list in lists {
+        input.extend((list.len() as u16).to_le_bytes());
+    }
+    input.extend((states.len() as u16).to_le_bytes());
+    for reading in lists.concat() {
+        input.extend(reading.to_le_bytes());
+    }
     input.extend(states);
     input
+}
+
+fn month_input(efficiency: u16, flows: &[f32], contents: &[f32], states: &[u8]) -> Vec<u8> {
+    input_of(b"CM", efficiency, &[flows, contents], states)
+}
+
+fn steady_feet(hours: usize) -> Vec<u8> {
+    let lists = [100.0, 60.0, 520.0, 1.0].map(|reading| vec![reading; hours]);
+    let lists = lists.each_ref().map(Vec::as_slice);
+    input_of(b"CF", 10_000, &lists, &vec![0; hours])
 }
 
 fn steady_month(hours: usize) -> Vec<u8> {
@@ -186,6 +196,50 @@ fn the_months_own_refusals() {
     let mut flows = [100.0; 696];
     flows[695] = f32::from_bits(0x7f80_0001);
     let efficient = |efficiency| month_input(efficiency, &flows, &[60.0; 696], &[0; 696]);
+    assert_eq!(month_of(&efficient(10_001)), "refused 4 at 0\n");
+    assert_eq!(month_of(&efficient(10_000)), "refused 11 at 695\n");
+}
+
+#[test]
+fn a_month_in_cubic_feet() {
+    assert_eq!(month_of(&steady_feet(672)), "destroyed 774144\n");
+    let lists: [&[f32]; 4] = [&[200.0; 744], &[50.0; 744], &[650.0; 744], &[2.0; 744]];
+    // 20,000 x 0.8 x 2 is 32,000; x 5,000 x 192,042 / 10^10 is 3072.67.
+    let varied = input_of(b"CF", 10_000, &lists, &[0; 744]);
+    assert_eq!(month_of(&varied), format!("destroyed {}\n", 744 * 3_072));
+}
+
+#[test]
+fn a_month_in_cubic_feet_cut_short_or_too_long() {
+    let whole = steady_feet(672);
+    let ends = [14, 2_702, 5_390, 8_078, 10_766, whole.len()];
+    let around = ends.into_iter().flat_map(|end| [end - 1, end, end + 1]);
+    for length in (0..20).chain(around).filter(|&length| length < whole.len()) {
+        assert_eq!(month_of(&whole[..length]), "refused 10 at 0\n", "{length}");
+    }
+    let longer = [&whole[..], b"\0"].concat();
+    assert_eq!(month_of(&longer), "refused 10 at 0\n");
+    let mut of_metres = whole.clone();
+    of_metres[1] = b'M';
+    assert_eq!(month_of(&of_metres), "refused 10 at 0\n");
+    for mark in [b"cF", b"Cf", b"CG", b"FC"] {
+        assert_eq!(month_of(mark), "refused 2 at 0\n");
+    }
+}
+
+#[test]
+fn the_longest_month_that_a_header_can_say_is_read_whole() {
+    let longest = steady_feet(65_535);
+    assert_eq!(month_of(&longest), "refused 10 at 0\n");
+    assert!(month(failing(&longest)).is_err());
+}
+
+#[test]
+fn the_refusals_of_a_month_in_cubic_feet() {
+    let mut temperatures = [520.0; 696];
+    temperatures[695] = 399.9;
+    let lists: [&[f32]; 4] = [&[100.0; 696], &[60.0; 696], &temperatures, &[1.0; 696]];
+    let efficient = |efficiency| input_of(b"CF", efficiency, &lists, &[1; 696]);
     assert_eq!(month_of(&efficient(10_001)), "refused 4 at 0\n");
     assert_eq!(month_of(&efficient(10_000)), "refused 11 at 695\n");
 }
