@@ -12,7 +12,16 @@
 
 #include "cabinet.h"
 
-enum kind { DELIVERY, MONTH, READINGS, EACH_READING, EMPTY };
+enum kind {
+    DELIVERY,
+    MONTH,
+    READINGS,
+    EACH_READING,
+    EMPTY,
+    FEET_MONTH,
+    FEET_HOURS,
+    EACH_FEET_HOUR
+};
 
 /* The memory that is lent: it has room around a book, for bytes that must stay. */
 #define UNTOUCHED 0xa5
@@ -156,6 +165,13 @@ static void delivery(void)
     free(bytes);
 }
 
+static void answer_month(struct cabinet_month month)
+{
+    answer(month.number);
+    answer(month.place);
+    answer(month.destroyed);
+}
+
 static void month(void)
 {
     uint64_t flow_count = number();
@@ -165,13 +181,33 @@ static void month(void)
     float *flows = things(flow_count, sizeof *flows);
     float *contents = things(content_count, sizeof *contents);
     uint8_t *states = things(state_count, sizeof *states);
-    struct cabinet_month month = cabinet_month(flows, flow_count, contents, content_count,
-                                               states, state_count, efficiency);
-    answer(month.number);
-    answer(month.place);
-    answer(month.destroyed);
+    answer_month(cabinet_month(flows, flow_count, contents, content_count, states, state_count,
+                               efficiency));
     free(flows);
     free(contents);
+    free(states);
+}
+
+static void feet_month(void)
+{
+    uint64_t flow_count = number();
+    uint64_t content_count = number();
+    uint64_t temperature_count = number();
+    uint64_t pressure_count = number();
+    uint64_t state_count = number();
+    uint32_t efficiency = (uint32_t)number();
+    float *flows = things(flow_count, sizeof *flows);
+    float *contents = things(content_count, sizeof *contents);
+    float *temperatures = things(temperature_count, sizeof *temperatures);
+    float *pressures = things(pressure_count, sizeof *pressures);
+    uint8_t *states = things(state_count, sizeof *states);
+    answer_month(cabinet_feet_month(flows, flow_count, contents, content_count, temperatures,
+                                    temperature_count, pressures, pressure_count, states,
+                                    state_count, efficiency));
+    free(flows);
+    free(contents);
+    free(temperatures);
+    free(pressures);
     free(states);
 }
 
@@ -202,6 +238,57 @@ static void readings(enum kind kind)
         answer(digest);
 }
 
+/* An hour in cubic feet in one number: a flow that the rules can give is below
+ * 2^37, so that no field runs into the next. */
+static uint64_t word_of(struct cabinet_feet_hour hour)
+{
+    return hour.taken + UINT64_C(2) * hour.has_flow + UINT64_C(4) * hour.has_content +
+           8 * hour.flow + (hour.content << 40);
+}
+
+static void answer_hour(struct cabinet_feet_hour hour)
+{
+    answer(hour.taken);
+    answer(hour.has_flow);
+    answer(hour.has_content);
+    answer(hour.flow);
+    answer(hour.content);
+}
+
+/* Patterns of a float, from one on by steps, each tried in hours in cubic feet,
+ * one by one or as a digest: as a flow, as a temperature and as a pressure, with
+ * the others such that a corrected flow tells any two apart and the pattern as a
+ * content that is missing; then as a content, where all others are ignored. */
+static void feet_hours(enum kind kind)
+{
+    enum { NO_CONTENT = 2, NO_CORRECTION = 8, HOURS = 4 };
+    const float most_flow = 400000;
+    const float least_temperature = 400;
+    const float most_pressure = 10;
+    uint32_t pattern = (uint32_t)number();
+    uint32_t step = (uint32_t)number();
+    uint64_t count = number();
+    uint64_t digest = 0;
+    for (uint64_t done = 0; done < count; done++, pattern += step) {
+        float value;
+        memcpy(&value, &pattern, sizeof value);
+        const struct cabinet_feet_hour hours[HOURS] = {
+            cabinet_feet_hour(value, value, least_temperature, most_pressure, NO_CONTENT),
+            cabinet_feet_hour(most_flow, value, value, most_pressure, NO_CONTENT),
+            cabinet_feet_hour(most_flow, value, least_temperature, value, NO_CONTENT),
+            cabinet_feet_hour(value, value, value, value, NO_CORRECTION),
+        };
+        for (uint64_t hour = 0; hour < HOURS; hour++) {
+            if (kind == EACH_FEET_HOUR)
+                answer_hour(hours[hour]);
+            else
+                digest += mixed(HOURS * (uint64_t)pattern + hour, word_of(hours[hour]));
+        }
+    }
+    if (kind == FEET_HOURS)
+        answer(digest);
+}
+
 /* Whether lent memory was made a book, and a digest of all of it. */
 static void empty(void)
 {
@@ -229,6 +316,13 @@ int main(void)
             break;
         case EMPTY:
             empty();
+            break;
+        case FEET_MONTH:
+            feet_month();
+            break;
+        case FEET_HOURS:
+        case EACH_FEET_HOUR:
+            feet_hours((enum kind)kind);
             break;
         default:
             fail("a request of no kind");

@@ -69,3 +69,13 @@ pub struct Reading {
     pub taken: bool,
     pub whole: u64,
 }
+
+#[repr(C)]
+#[derive(Clone, Copy, Debug, PartialEq, Eq)]
+pub struct FeetHour {
+    pub taken: bool,
+    pub has_flow: bool,
+    pub has_content: bool,
+    pub flow: u64,
+    pub content: u64,
+}

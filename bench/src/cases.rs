@@ -4,6 +4,8 @@
 mod books;
 mod damaged;
 mod edges;
+mod feet;
+mod feet_values;
 mod figures;
 mod floats;
 mod gaps;
@@ -17,6 +19,7 @@ use std::path::Path;
 
 use crate::book::Record;
 pub use crate::corpus::Program;
+use crate::feet::{feet_input, FeetHours};
 use crate::hours::{self, Hours};
 use crate::streams;
 
@@ -89,6 +92,10 @@ impl Group {
     fn hours(&mut self, name: impl Into<String>, hours: &Hours) -> &mut Case {
         self.add(Program::Month, name, hours::input(hours))
     }
+
+    fn feet(&mut self, name: impl Into<String>, hours: &FeetHours) -> &mut Case {
+        self.add(Program::Month, name, feet_input(hours))
+    }
 }
 
 impl Case {
@@ -131,6 +138,13 @@ pub fn groups(root: &Path, farm: &Path) -> std::io::Result<Vec<Group>> {
         gaps::gaps(),
         floats::floats(),
         month::months(),
+        feet::figures(),
+        feet::counts(),
+        feet::states(),
+        feet_values::gaps(),
+        feet_values::floats(),
+        feet_values::roundings(),
+        feet::months(),
         damaged::damaged(root, farm)?,
     ])
 }

@@ -2,6 +2,7 @@
 //! 32 bits, and slices of any lengths.
 
 use crate::book::RECORD_BYTES;
+use crate::feet::{feet_hours, FeetHours};
 use crate::hours::{hours, Hours};
 use crate::random::Random;
 use crate::streams::pieces;
@@ -25,22 +26,13 @@ pub fn pieces_of(seed: u64, case: u64, stream: &[u8]) -> Vec<&[u8]> {
     pieces
 }
 
-/// A meter month, with the efficiency as the C face takes it.
+/// A month of a meter in cubic metres, with the efficiency as the C face takes it.
 pub fn month_of(seed: u64, case: u64) -> (Hours, u32) {
     let random = &mut Random::of_case(!seed, case);
     let mut hours = hours(seed, case);
-    let efficiency = match random.below(50) {
-        0 => 10_000,
-        1 => 10_001,
-        2 => 65_536,
-        3 => 65_536 + 5,
-        4 => 65_536 + 10_000,
-        5 => u32::MAX,
-        6 => random.next() as u32,
-        _ => hours.efficiency.into(),
-    };
+    let efficiency = efficiency(random, hours.efficiency);
     if random.once_in(20) {
-        let length = [0, 1, 671, 672, 673, 696, 720, 743, 744, 745][random.below(10)];
+        let length = length(random);
         match random.below(3) {
             0 => hours.flows.resize(length, 1.0),
             1 => hours.contents.resize(length, 1.0),
@@ -48,4 +40,33 @@ pub fn month_of(seed: u64, case: u64) -> (Hours, u32) {
         }
     }
     (hours, efficiency)
+}
+
+/// A month of a meter in cubic feet, likewise.
+pub fn feet_month_of(seed: u64, case: u64) -> (FeetHours, u32) {
+    let random = &mut Random::of_case(!seed, case);
+    let mut hours = feet_hours(seed, case);
+    let efficiency = efficiency(random, hours.efficiency);
+    if random.once_in(20) {
+        let length = length(random);
+        hours.resize(random.below(5), length);
+    }
+    (hours, efficiency)
+}
+
+fn efficiency(random: &mut Random, own: u16) -> u32 {
+    match random.below(50) {
+        0 => 10_000,
+        1 => 10_001,
+        2 => 65_536,
+        3 => 65_536 + 5,
+        4 => 65_536 + 10_000,
+        5 => u32::MAX,
+        6 => random.next() as u32,
+        _ => own.into(),
+    }
+}
+
+fn length(random: &mut Random) -> usize {
+    [0, 1, 671, 672, 673, 696, 720, 743, 744, 745][random.below(10)]
 }

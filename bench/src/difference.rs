@@ -8,8 +8,9 @@ use second::year::YearFigures;
 use crate::book::{record, Record, LN, RECORD_BYTES};
 use crate::cabinet::{self, BOOK_BYTES};
 use crate::digest;
-use crate::driver::{Changed, Delivered, Delivery, Driver, Patterns, Told};
-use crate::hours::Hours;
+use crate::driver::{Changed, Delivered, Delivery, Driver, Patterns, Told, HOURS_OF_A_PATTERN};
+use crate::feet::{FeetHours, LEAST_TEMPERATURE, MOST_FEET, MOST_PRESSURE, NO_CORRECTION};
+use crate::hours::{Hours, NO_CONTENT};
 use crate::slots::Slots;
 
 /// What differs, and an input that shows it to the programs.
@@ -144,14 +145,19 @@ impl Sides<'_> {
             ..
         } = hours;
         let proved = self.driver.month(flows, contents, states, efficiency)?;
-        let plain = plain_month(hours, efficiency);
-        if proved == plain {
-            Ok(proved)
-        } else {
-            Err(format!(
-                "efficiency {efficiency}: proved {proved:?}, second {plain:?}"
-            ))
-        }
+        same_month(proved, plain_month(hours, efficiency), efficiency)
+    }
+
+    /// A month of a meter in cubic feet on both sides.
+    pub fn feet_month(
+        &mut self,
+        hours: &FeetHours,
+        efficiency: u32,
+    ) -> Result<cabinet::Month, String> {
+        let proved = self
+            .driver
+            .feet_month(hours.lists(), &hours.states, efficiency)?;
+        same_month(proved, plain_feet_month(hours, efficiency), efficiency)
     }
 
     /// Readings on both sides, as flows and as contents: by their digests, and
@@ -176,10 +182,32 @@ impl Sides<'_> {
                 ));
             }
         }
-        Err(format!(
-            "the digests of {} patterns from {:#010x} on differ, and no pattern does",
-            patterns.count, patterns.first
-        ))
+        Err(only_digests_differ(patterns))
+    }
+
+    /// Hours in cubic feet on both sides, in which the patterns are tried: by
+    /// their digests, and one by one where those differ.
+    pub fn feet_hours(&mut self, patterns: Patterns) -> Result<(), String> {
+        let mut digest = 0u64;
+        for pattern in patterns.each() {
+            let places = HOURS_OF_A_PATTERN as u64 * u64::from(pattern)..;
+            for (place, hour) in places.zip(plain_feet_hours(pattern)) {
+                digest = digest.wrapping_add(digest::mixed(place, word_of(hour)));
+            }
+        }
+        if self.driver.feet_hours(patterns)? == digest {
+            return Ok(());
+        }
+        let each = self.driver.each_feet_hour(patterns)?;
+        for (pattern, proved) in patterns.each().zip(each) {
+            let plain = plain_feet_hours(pattern);
+            if proved != plain {
+                return Err(format!(
+                    "pattern {pattern:#010x} as flow, temperature, pressure and content in cubic feet: proved {proved:?}, second {plain:?}"
+                ));
+            }
+        }
+        Err(only_digests_differ(patterns))
     }
 
     /// Memory of any size, of which only a book's is made one.
@@ -198,6 +226,27 @@ impl Sides<'_> {
             ))
         }
     }
+}
+
+fn same_month(
+    proved: cabinet::Month,
+    plain: cabinet::Month,
+    efficiency: u32,
+) -> Result<cabinet::Month, String> {
+    if proved == plain {
+        Ok(proved)
+    } else {
+        Err(format!(
+            "efficiency {efficiency}: proved {proved:?}, second {plain:?}"
+        ))
+    }
+}
+
+fn only_digests_differ(patterns: Patterns) -> String {
+    format!(
+        "the digests of {} patterns from {:#010x} on differ, and no pattern does",
+        patterns.count, patterns.first
+    )
 }
 
 fn ln_of(number: u8, line: &Line) -> Record {
@@ -264,7 +313,29 @@ fn year_of(answer: Result<YearFigures, Refusal>) -> cabinet::Year {
 /// The second program takes 16 bits: an efficiency past those is above 10,000 too.
 fn plain_month(hours: &Hours, efficiency: u32) -> cabinet::Month {
     let efficiency = efficiency.try_into().unwrap_or(u16::MAX);
-    match second::meter::month(&hours.flows, &hours.contents, &hours.states, efficiency) {
+    month_told(second::meter::month(
+        &hours.flows,
+        &hours.contents,
+        &hours.states,
+        efficiency,
+    ))
+}
+
+fn plain_feet_month(hours: &FeetHours, efficiency: u32) -> cabinet::Month {
+    let efficiency = efficiency.try_into().unwrap_or(u16::MAX);
+    let [flows, contents, temperatures, pressures] = hours.lists();
+    month_told(second::feet::month(
+        flows,
+        contents,
+        temperatures,
+        pressures,
+        &hours.states,
+        efficiency,
+    ))
+}
+
+fn month_told(answer: Result<u64, Refusal>) -> cabinet::Month {
+    match answer {
         Ok(destroyed) => cabinet::Month {
             number: 0,
             place: 0,
@@ -289,4 +360,36 @@ fn plain_reading(pattern: u32) -> [cabinet::Reading; 2] {
         taken: whole.is_some(),
         whole: whole.unwrap_or(0).into(),
     })
+}
+
+/// The hours in which bench/driver.c tries a pattern.
+fn plain_feet_hours(pattern: u32) -> [cabinet::FeetHour; HOURS_OF_A_PATTERN] {
+    let value = f32::from_bits(pattern);
+    let (flow, temperature, pressure) = (MOST_FEET, LEAST_TEMPERATURE, MOST_PRESSURE);
+    let hours = [
+        second::feet::hour(value, value, temperature, pressure, NO_CONTENT),
+        second::feet::hour(flow, value, value, pressure, NO_CONTENT),
+        second::feet::hour(flow, value, temperature, value, NO_CONTENT),
+        second::feet::hour(value, value, value, value, NO_CORRECTION),
+    ];
+    hours.map(|hour| {
+        let flow = hour.and_then(|hour| hour.flow);
+        let content = hour.and_then(|hour| hour.content);
+        cabinet::FeetHour {
+            taken: hour.is_some(),
+            has_flow: flow.is_some(),
+            has_content: content.is_some(),
+            flow: flow.unwrap_or(0).into(),
+            content: content.unwrap_or(0).into(),
+        }
+    })
+}
+
+/// An hour in one number, as bench/driver.c makes it.
+fn word_of(hour: cabinet::FeetHour) -> u64 {
+    u64::from(hour.taken)
+        + 2 * u64::from(hour.has_flow)
+        + 4 * u64::from(hour.has_content)
+        + 8 * hour.flow
+        + (hour.content << 40)
 }

@@ -5,7 +5,7 @@ use std::io::{BufReader, BufWriter, Read, Write};
 use std::path::Path;
 use std::process::{Child, ChildStdin, ChildStdout, Command, Stdio};
 
-use crate::cabinet::{Month, Posted, Reading, Year};
+use crate::cabinet::{FeetHour, Month, Posted, Reading, Year};
 
 /// The kinds of requests, as bench/driver.c numbers them.
 const DELIVERY: u64 = 0;
@@ -13,6 +13,13 @@ const MONTH: u64 = 1;
 const READINGS: u64 = 2;
 const EACH_READING: u64 = 3;
 const EMPTY: u64 = 4;
+const FEET_MONTH: u64 = 5;
+const FEET_HOURS: u64 = 6;
+const EACH_FEET_HOUR: u64 = 7;
+
+/// The hours in which a pattern is tried: as a flow, as a temperature, as a
+/// pressure and as a content.
+pub const HOURS_OF_A_PATTERN: usize = 4;
 
 /// Records of any lengths, posted past the refusals to an empty book that
 /// stands at an offset of lent memory, and the years asked of it.
@@ -167,11 +174,32 @@ impl Driver {
         states: &[u8],
         efficiency: u32,
     ) -> Result<Month, String> {
-        let lengths = [flows.len(), contents.len(), states.len()].map(|length| length as u64);
-        self.ask(&[MONTH])?;
-        self.ask(&lengths)?;
-        self.ask(&[efficiency.into()])?;
-        for value in flows.iter().chain(contents) {
+        self.month_of(MONTH, &[flows, contents], states, efficiency)
+    }
+
+    /// The lists are the flows, the contents, the temperatures and the pressures.
+    pub fn feet_month(
+        &mut self,
+        lists: [&[f32]; 4],
+        states: &[u8],
+        efficiency: u32,
+    ) -> Result<Month, String> {
+        self.month_of(FEET_MONTH, &lists, states, efficiency)
+    }
+
+    fn month_of(
+        &mut self,
+        kind: u64,
+        lists: &[&[f32]],
+        states: &[u8],
+        efficiency: u32,
+    ) -> Result<Month, String> {
+        self.ask(&[kind])?;
+        for list in lists {
+            self.ask(&[list.len() as u64])?;
+        }
+        self.ask(&[states.len() as u64, efficiency.into()])?;
+        for value in lists.iter().copied().flatten() {
             self.send(&value.to_le_bytes())?;
         }
         self.send(states)?;
@@ -200,6 +228,32 @@ impl Driver {
             .collect()
     }
 
+    /// A digest of the hours in cubic feet that the patterns are tried in.
+    pub fn feet_hours(&mut self, patterns: Patterns) -> Result<u64, String> {
+        self.ask_patterns(FEET_HOURS, patterns)?;
+        let [digest] = self.numbers()?;
+        Ok(digest)
+    }
+
+    /// Each pattern in each of its hours.
+    pub fn each_feet_hour(
+        &mut self,
+        patterns: Patterns,
+    ) -> Result<Vec<[FeetHour; HOURS_OF_A_PATTERN]>, String> {
+        self.ask_patterns(EACH_FEET_HOUR, patterns)?;
+        patterns
+            .each()
+            .map(|_| {
+                Ok([
+                    self.feet_hour()?,
+                    self.feet_hour()?,
+                    self.feet_hour()?,
+                    self.feet_hour()?,
+                ])
+            })
+            .collect()
+    }
+
     fn ask_patterns(&mut self, kind: u64, patterns: Patterns) -> Result<(), String> {
         self.ask(&[
             kind,
@@ -215,6 +269,17 @@ impl Driver {
         Ok(Reading {
             taken: taken != 0,
             whole,
+        })
+    }
+
+    fn feet_hour(&mut self) -> Result<FeetHour, String> {
+        let [taken, has_flow, has_content, flow, content] = self.numbers()?;
+        Ok(FeetHour {
+            taken: taken != 0,
+            has_flow: has_flow != 0,
+            has_content: has_content != 0,
+            flow,
+            content,
         })
     }
 

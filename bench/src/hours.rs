@@ -1,4 +1,4 @@
-//! Made-up meter months.
+//! Made-up months of a meter in cubic metres.
 
 use crate::random::Random;
 
@@ -78,7 +78,7 @@ fn flow(random: &mut Random) -> f32 {
     }
 }
 
-fn content(random: &mut Random) -> f32 {
+pub fn content(random: &mut Random) -> f32 {
     match random.below(40) {
         0 => 0.0,
         1 => -0.0,
@@ -89,7 +89,7 @@ fn content(random: &mut Random) -> f32 {
 }
 
 /// One to seven hours without a value, some right beside another gap or at an end.
-fn gap(random: &mut Random, states: &mut [u8], missing: u8) {
+pub fn gap(random: &mut Random, states: &mut [u8], missing: u8) {
     let start = if random.once_in(10) {
         random.below(6)
     } else {
@@ -138,7 +138,7 @@ fn spoil(random: &mut Random, hours: &mut Hours) {
     }
 }
 
-fn bad(random: &mut Random, most: f32) -> f32 {
+pub fn bad(random: &mut Random, most: f32) -> f32 {
     match random.below(6) {
         0 => f32::NAN,
         1 => f32::INFINITY,

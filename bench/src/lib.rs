@@ -15,6 +15,7 @@ pub mod difference;
 pub mod digest;
 pub mod driver;
 pub mod farm;
+pub mod feet;
 pub mod floors;
 pub mod full;
 pub mod hours;

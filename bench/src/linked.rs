@@ -17,6 +17,19 @@ extern "C" {
         state_count: usize,
         efficiency: u32,
     ) -> Month;
+    fn cabinet_feet_month(
+        flows: *const f32,
+        flow_count: usize,
+        contents: *const f32,
+        content_count: usize,
+        temperatures: *const f32,
+        temperature_count: usize,
+        pressures: *const f32,
+        pressure_count: usize,
+        states: *const u8,
+        state_count: usize,
+        efficiency: u32,
+    ) -> Month;
 }
 
 /// A book that only `cabinet_empty` and `cabinet_post` write, which is all that
@@ -58,6 +71,26 @@ pub fn month(flows: &[f32], contents: &[f32], states: &[u8], efficiency: u32) ->
             flows.len(),
             contents.as_ptr(),
             contents.len(),
+            states.as_ptr(),
+            states.len(),
+            efficiency,
+        )
+    }
+}
+
+/// The lists are the flows, the contents, the temperatures and the pressures.
+pub fn feet_month(lists: [&[f32]; 4], states: &[u8], efficiency: u32) -> Month {
+    let [flows, contents, temperatures, pressures] = lists;
+    unsafe {
+        cabinet_feet_month(
+            flows.as_ptr(),
+            flows.len(),
+            contents.as_ptr(),
+            contents.len(),
+            temperatures.as_ptr(),
+            temperatures.len(),
+            pressures.as_ptr(),
+            pressures.len(),
             states.as_ptr(),
             states.len(),
             efficiency,

@@ -15,10 +15,10 @@ const LEAST_REFUSED: [(Program, u64, usize, usize); 11] = [
     (Program::Years, 5, 400, 1),
     (Program::Years, 7, 120, 16),
     (Program::Years, 8, 1_500, 50),
-    (Program::Month, 2, 40, 1),
-    (Program::Month, 4, 25, 1),
-    (Program::Month, 10, 200, 1),
-    (Program::Month, 11, 220, 50),
+    (Program::Month, 2, 80, 1),
+    (Program::Month, 4, 50, 1),
+    (Program::Month, 10, 320, 1),
+    (Program::Month, 11, 420, 65),
 ];
 
 /// Of the stated years how many there have to be of each kind.

@@ -4,7 +4,8 @@
 //!     library DRIVER [streams COUNT] [months COUNT] [floats] [temperatures] [livestock] [cuts] [sizes] [seed SEED]
 //!
 //! DRIVER is bench/driver.c, built. Without a further word, all of it at the
-//! size that the tests run.
+//! size that the tests run. `months` are so many of each kind of meter, and
+//! `floats` are tried as the readings of either.
 
 use std::path::{Path, PathBuf};
 use std::process::ExitCode;
@@ -13,9 +14,10 @@ use std::thread;
 use bench::book::{record, whole, Extent, Record, HD, LD, LN, PE, RECORD_BYTES, TP, YR};
 use bench::book::{BY_STATE, CATEGORIES, LINES, LIVESTOCK, STATES};
 use bench::cabinet::BOOK_BYTES;
-use bench::deliveries::{month_of, pieces_of};
+use bench::deliveries::{feet_month_of, month_of, pieces_of};
 use bench::difference::{Difference, Sides};
 use bench::driver::{Delivered, Delivery, Driver, Patterns};
+use bench::feet::{feet_input, LEAST_TEMPERATURE, MOST_FEET, MOST_PRESSURE, MOST_TEMPERATURE};
 use bench::floors::{Floor, Tally};
 use bench::full::full_book;
 use bench::hours::input;
@@ -69,6 +71,12 @@ const MONTH_FLOORS: [Floor; 4] = [
     floor(10, 80, 1),
     floor(4, 40, 1),
     floor(11, 30, 300),
+];
+const FEET_MONTH_FLOORS: [Floor; 4] = [
+    floor(0, 300, 0),
+    floor(10, 60, 1),
+    floor(4, 40, 1),
+    floor(11, 60, 500),
 ];
 
 struct Asked {
@@ -156,10 +164,13 @@ fn compare(asked: &Asked) -> Result<(), String> {
     }
     if asked.months > 0 {
         meter_months(run, seed, asked.months)?;
+        feet_months(run, seed, asked.months)?;
     }
     if asked.floats {
         let patterns = floats(run)?;
-        println!("library: {patterns} patterns of f32, as flow and as content");
+        println!(
+            "library: {patterns} patterns of f32, as flow and as content; as flow, temperature, pressure and content in cubic feet"
+        );
     }
     if asked.temperatures {
         let taken = temperatures(run)?;
@@ -296,6 +307,21 @@ fn meter_months(run: &Run, seed: u64, count: u64) -> Result<(), String> {
     answers.reaches(&MONTH_FLOORS, count)
 }
 
+fn feet_months(run: &Run, seed: u64, count: u64) -> Result<(), String> {
+    let [answers, _] = run.on_workers(count, |sides, case, [answers, _]| {
+        let (hours, efficiency) = feet_month_of(seed, case);
+        let month = sides.feet_month(&hours, efficiency).map_err(|what| {
+            let input = feet_input(&hours);
+            kept("month-feet", seed, case, Difference { what, input })
+        })?;
+        answers.add(month.number, month.place);
+        Ok(())
+    })?;
+    let told = answers.told("stated");
+    println!("library: {count} meter months in cubic feet, seed {seed}: {told}");
+    answers.reaches(&FEET_MONTH_FLOORS, count)
+}
+
 /// How many patterns were read.
 fn floats(run: &Run) -> Result<u64, String> {
     let blocks = if EMULATED {
@@ -304,7 +330,8 @@ fn floats(run: &Run) -> Result<u64, String> {
         all_patterns()
     };
     run.on_workers(blocks.len() as u64, |sides, block, _| {
-        sides.readings(blocks[block as usize])
+        sides.readings(blocks[block as usize])?;
+        sides.feet_hours(blocks[block as usize])
     })?;
     Ok(blocks.iter().map(|block| block.count).sum())
 }
@@ -329,14 +356,21 @@ fn stepped(step: u32) -> Vec<Patterns> {
 }
 
 /// Every thirty-first pattern, and all those beside the ends of an exponent, of
-/// either sign, and beside the most that a flow or a content may be.
+/// either sign, and beside the ends of what a reading may be.
 fn sampled_patterns() -> Vec<Patterns> {
     const STEP: u32 = 31;
     const BESIDE: u32 = 1 << 11;
     const FRACTION_BITS: u32 = 23;
     let exponents = (0..1 << (32 - FRACTION_BITS)).map(|exponent: u32| exponent << FRACTION_BITS);
-    let mosts = [100_000.0, 100.0, -100_000.0, -100.0].map(f32::to_bits);
-    let beside = exponents.chain(mosts).map(|pattern| Patterns {
+    let feet_ends = [
+        MOST_FEET,
+        LEAST_TEMPERATURE,
+        MOST_TEMPERATURE,
+        MOST_PRESSURE,
+    ];
+    let ends = [100_000.0, 100.0].into_iter().chain(feet_ends);
+    let ends = ends.flat_map(|end| [end.to_bits(), (-end).to_bits()]);
+    let beside = exponents.chain(ends).map(|pattern| Patterns {
         first: pattern.wrapping_sub(BESIDE),
         step: 1,
         count: 2 * u64::from(BESIDE),

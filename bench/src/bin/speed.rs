@@ -11,7 +11,9 @@ use std::process::{Command, ExitCode, Stdio};
 use std::time::Instant;
 
 use bench::book::Record;
+use bench::feet::NO_CORRECTION;
 use bench::full::full_book;
+use bench::hours::{NO_CONTENT, NO_FLOW};
 use bench::linked;
 use bench::random::Random;
 use second::book::Book as PlainBook;
@@ -41,6 +43,7 @@ fn main() -> ExitCode {
     );
     years(&mut lines, &drained_at_times(&records));
     month(&mut lines);
+    feet_month(&mut lines);
     if let [proved, plain] = &words[..] {
         if let Err(message) = programs(&mut lines, &drained_at_times(&records), proved, plain) {
             eprintln!("speed: {message}");
@@ -142,17 +145,26 @@ fn years(lines: &mut Lines, records: &[Record]) {
     }
 }
 
+const HOURS: usize = 744;
+const EFFICIENCY: u16 = 9_800;
+
+/// A reading an hour, from one on by steps that begin again after so many.
+fn readings(first: f32, step: f32, again: usize) -> Vec<f32> {
+    (0..HOURS)
+        .map(|hour| first + (hour % again) as f32 * step)
+        .collect()
+}
+
+fn states(no_flow: u8) -> Vec<u8> {
+    (0..HOURS)
+        .map(|hour| no_flow * u8::from(hour % 50 < 3) + NO_CONTENT * u8::from(hour % 61 == 9))
+        .collect()
+}
+
 fn month(lines: &mut Lines) {
-    let flows: Vec<f32> = (0..744)
-        .map(|hour| 100.0 + (hour % 37) as f32 * 1.3)
-        .collect();
-    let contents: Vec<f32> = (0..744)
-        .map(|hour| 55.0 + (hour % 11) as f32 * 0.7)
-        .collect();
-    let states: Vec<u8> = (0..744)
-        .map(|hour| u8::from(hour % 50 < 3) + 2 * u8::from(hour % 61 == 9))
-        .collect();
-    let efficiency = 9_800;
+    let flows = readings(100.0, 1.3, 37);
+    let contents = readings(55.0, 0.7, 11);
+    let states = states(NO_FLOW);
     let (proved, plain) = least(
         50,
         || {
@@ -160,7 +172,7 @@ fn month(lines: &mut Lines) {
                 black_box(&flows),
                 black_box(&contents),
                 black_box(&states),
-                efficiency.into(),
+                EFFICIENCY.into(),
             ));
         },
         || {
@@ -168,11 +180,47 @@ fn month(lines: &mut Lines) {
                 black_box(&flows),
                 black_box(&contents),
                 black_box(&states),
-                efficiency,
+                EFFICIENCY,
             ));
         },
     );
     lines.add("a meter month of 744 hours, µs", proved / 1e3, plain / 1e3);
+}
+
+/// With as many gaps as the month in cubic metres has, for want of a
+/// temperature or a pressure.
+fn feet_month(lines: &mut Lines) {
+    let flows = readings(3_500.0, 45.7, 37);
+    let contents = readings(55.0, 0.7, 11);
+    let temperatures = readings(505.0, 1.1, 23);
+    let pressures = readings(0.98, 0.003, 13);
+    let states = states(NO_CORRECTION);
+    let (proved, plain) = least(
+        50,
+        || {
+            let lists = [&flows, &contents, &temperatures, &pressures];
+            black_box(linked::feet_month(
+                lists.map(|list| black_box(list.as_slice())),
+                black_box(&states),
+                EFFICIENCY.into(),
+            ));
+        },
+        || {
+            let _ = black_box(second::feet::month(
+                black_box(&flows),
+                black_box(&contents),
+                black_box(&temperatures),
+                black_box(&pressures),
+                black_box(&states),
+                EFFICIENCY,
+            ));
+        },
+    );
+    lines.add(
+        "a meter month of 744 hours in cubic feet, µs",
+        proved / 1e3,
+        plain / 1e3,
+    );
 }
 
 /// The whole programs, from start to end, on a ten-year book of 32 lines and
