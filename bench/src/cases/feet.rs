@@ -16,37 +16,10 @@ pub fn figures() -> Group {
     for (name, gap, grams) in gaps {
         let mut month = FeetHours::steady(672, 100.0, 60.0);
         month.states[gap].fill(NO_CORRECTION);
-        group
-            .feet(name, &month)
-            .prints(&format!("destroyed {grams}\n"));
+        let text = format!("destroyed {grams}\n");
+        group.feet(name, &month).prints(&text);
     }
-    // Flow, content, temperature and pressure, and the grams: the flow in
-    // hundredths x 52,000 x P / (T x 10,000), then x content x 423 x 454 / 10^10.
-    let single = [
-        ("an hour", [100.0, 60.0, 520.0, 1.0], 1_152),
-        ("2.5 atm", [100.0, 60.0, 520.0, 2.5], 2_880),
-        (
-            "519.99 counts 51,998",
-            [400_000.0, 100.0, 519.99, 1.0],
-            7_681_975,
-        ),
-        (
-            "0.9 counts 8,999",
-            [400_000.0, 100.0, 520.0, 0.9],
-            6_912_743,
-        ),
-        (
-            "content 60.1 counts 6009",
-            [400_000.0, 60.1, 520.0, 1.0],
-            4_615_921,
-        ),
-        ("the most", [400_000.0, 100.0, 400.0, 10.0], 99_861_840),
-        ("the hottest", [400_000.0, 100.0, 700.0, 10.0], 57_063_908),
-        ("no flow", [0.0, 100.0, 400.0, 10.0], 0),
-        ("flow minus zero", [-0.0, 100.0, 400.0, 10.0], 0),
-        ("pressure minus zero", [400_000.0, 100.0, 400.0, -0.0], 0),
-    ];
-    for (name, readings, grams) in single {
+    for (name, readings, grams) in SINGLE_HOURS {
         let text = format!("destroyed {grams}\n");
         group.feet(name, &single_hour(readings)).prints(&text);
     }
@@ -63,6 +36,25 @@ pub fn figures() -> Group {
     of_metres(&mut group);
     group
 }
+
+/// Flow, content, temperature and pressure of an hour, and its grams: the flow
+/// in hundredths x 52,000 x P / (T x 10,000), then x content x 423 x 454 / 10^10.
+const SINGLE_HOURS: [(&str, [f32; 4], u64); 10] = [
+    ("an hour", [100.0, 60.0, 520.0, 1.0], 1_152),
+    ("2.5 atm", [100.0, 60.0, 520.0, 2.5], 2_880),
+    ("519.99 counts 51,998", [4e5, 100.0, 519.99, 1.0], 7_681_975),
+    ("0.9 counts 8,999", [4e5, 100.0, 520.0, 0.9], 6_912_743),
+    (
+        "content 60.1 counts 6009",
+        [4e5, 60.1, 520.0, 1.0],
+        4_615_921,
+    ),
+    ("the most", [4e5, 100.0, 400.0, 10.0], 99_861_840),
+    ("the hottest", [4e5, 100.0, 700.0, 10.0], 57_063_908),
+    ("no flow", [0.0, 100.0, 400.0, 10.0], 0),
+    ("flow minus zero", [-0.0, 100.0, 400.0, 10.0], 0),
+    ("pressure minus zero", [4e5, 100.0, 400.0, -0.0], 0),
+];
 
 /// A month of which all hours but the first have nothing recorded.
 fn single_hour([flow, content, temperature, pressure]: [f32; 4]) -> FeetHours {

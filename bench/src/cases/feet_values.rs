@@ -26,7 +26,7 @@ fn telling() -> FeetHours {
 }
 
 pub fn floats() -> Group {
-    let mut group = Group::new("cubic feet: floats", 170, 80, 62);
+    let mut group = Group::new("cubic feet: floats", 150, 74, 60);
     for (list, (name, least, most, _)) in LISTS.into_iter().enumerate() {
         for bits in special(least, most) {
             let mut month = telling();
@@ -59,22 +59,17 @@ fn special(least: f32, most: f32) -> Vec<u32> {
         f32::INFINITY,
         f32::NEG_INFINITY,
         f32::MAX,
-        -1.0,
         -most,
         60.1,
         459.67,
-        519.67,
         528.0,
-        0.001,
         0.01,
-        100_000.0,
         100_001.0,
         400_001.0,
         701.0,
         399.0,
         10.5,
         101.0,
-        7e6,
     ];
     bits.extend(floats.map(f32::to_bits));
     for limit in [least, most] {
