@@ -37,6 +37,8 @@ with-pressure state x = hour state (nearest 100 1) (nearest 60 1) (nearest 520 1
 pub record Edges : Type 0 where
   pub standard : with-flow 0 (nearest 100 1) ≡ Taken (Recorded 10000) (Recorded 6000)
   pub weighs : gramsIn CubicFeet 10000 6000 ≡ 1152
+  pub nearly-standard : hour 0 (nearest 400000 1) (nearest 60 1) (nearest 51999 100) (nearest 1 1) ≡ Taken (Recorded 40001538) (Recorded 6000)
+  pub two-and-a-half-atm : with-pressure 0 (nearest 25 10) ≡ Taken (Recorded 25000) (Recorded 6000)
   pub warm : hour 0 (nearest 123456 100) (nearest 60 1) (nearest 53125 100) (nearest 10713 10000) ≡ Taken (Recorded 129457) (Recorded 6000)
   pub largest : hour 4 (nearest 400000 1) (nearest 100 1) (nearest 400 1) (nearest 10 1) ≡ Taken (Recorded 520000000) (Recorded 10000)
   pub past-flow : with-flow 0 (pattern 0x48c3_5001) ≡ Refused
@@ -61,6 +63,8 @@ edges =
     record {
       standard = refl;
       weighs = refl;
+      nearly-standard = refl;
+      two-and-a-half-atm = refl;
       warm = refl;
       largest = refl;
       past-flow = refl;
