@@ -11,6 +11,7 @@
 #define HOURS 672
 #define EFFICIENCY 10000
 #define HOUR_GRAMS 40800 /* of flow 100.0 and content 60.0 */
+#define FEET_HOUR_GRAMS 1152 /* of 100.0 cubic feet and content 60.0 at 520 degrees and 1 atm */
 
 #define MOST_RECORDS 100
 
@@ -200,6 +201,70 @@ static void months(void)
     month_is_refused(month_of(HOURS, 14, -1.0f, EFFICIENCY), 11, HOURS - 1);
 }
 
+/* Paper 02, (iii): hours 10 on up to another have no temperature or no
+ * pressure; the last hour has readings of its own. */
+static struct cabinet_month feet_month_of(size_t hours, uint8_t last_not_corrected,
+                                          float last_temperature, float last_pressure,
+                                          uint32_t efficiency)
+{
+    static float flows[HOURS];
+    static float contents[HOURS];
+    static float temperatures[HOURS];
+    static float pressures[HOURS];
+    static uint8_t states[HOURS];
+    for (size_t hour = 0; hour < HOURS; hour++) {
+        flows[hour] = 100.0f;
+        contents[hour] = 60.0f;
+        temperatures[hour] = 520.0f;
+        pressures[hour] = 1.0f;
+        states[hour] = 10 <= hour && hour <= last_not_corrected ? 8 : 0;
+    }
+    temperatures[HOURS - 1] = last_temperature;
+    pressures[HOURS - 1] = last_pressure;
+    return cabinet_feet_month(flows, HOURS, contents, HOURS, temperatures, HOURS, pressures, hours,
+                              states, HOURS, efficiency);
+}
+
+static void feet_months(void)
+{
+    struct cabinet_month filled = feet_month_of(HOURS, 14, 520.0f, 1.0f, EFFICIENCY);
+    IS(filled.number, 0);
+    IS(filled.place, 0);
+    IS(filled.destroyed, HOURS * FEET_HOUR_GRAMS);
+    IS(feet_month_of(HOURS, 15, 520.0f, 1.0f, EFFICIENCY).destroyed, (HOURS - 6) * FEET_HOUR_GRAMS);
+    IS(feet_month_of(HOURS, 14, 520.0f, 2.5f, EFFICIENCY).destroyed,
+       (HOURS - 1) * FEET_HOUR_GRAMS + 2880);
+    month_is_refused(feet_month_of(HOURS - 1, 14, 520.0f, 1.0f, EFFICIENCY), 10, 0);
+    month_is_refused(feet_month_of(HOURS, 14, 60.0f, 1.0f, EFFICIENCY + 1), 4, 0);
+    month_is_refused(feet_month_of(HOURS, 14, 60.0f, 1.0f, EFFICIENCY), 11, HOURS - 1);
+    month_is_refused(feet_month_of(HOURS, 14, 520.0f, -0.5f, EFFICIENCY), 11, HOURS - 1);
+}
+
+static void feet_hour_is(struct cabinet_feet_hour hour, bool taken, bool has_flow, bool has_content,
+                         long long flow, long long content)
+{
+    IS(hour.taken, taken);
+    IS(hour.has_flow, has_flow);
+    IS(hour.has_content, has_content);
+    IS(hour.flow, flow);
+    IS(hour.content, content);
+}
+
+static void feet_hours(void)
+{
+    feet_hour_is(cabinet_feet_hour(100.0f, 60.0f, 520.0f, 1.0f, 0), true, true, true, 10000, 6000);
+    feet_hour_is(cabinet_feet_hour(100.0f, 60.0f, 520.0f, 2.5f, 4), true, true, true, 25000, 6000);
+    feet_hour_is(cabinet_feet_hour(400000.0f, 60.0f, 519.99f, 1.0f, 0), true, true, true, 40001538,
+                 6000);
+    feet_hour_is(cabinet_feet_hour(-1.0f, 60.0f, 520.0f, 1.0f, 1), true, false, true, 0, 6000);
+    feet_hour_is(cabinet_feet_hour(100.0f, -1.0f, 520.0f, 1.0f, 2), true, true, false, 10000, 0);
+    feet_hour_is(cabinet_feet_hour(-1.0f, 60.0f, -1.0f, -1.0f, 8), true, false, true, 0, 6000);
+    feet_hour_is(cabinet_feet_hour(-1.0f, -1.0f, -1.0f, -1.0f, 15), true, false, false, 0, 0);
+    feet_hour_is(cabinet_feet_hour(100.0f, 60.0f, 520.0f, 1.0f, 16), false, false, false, 0, 0);
+    feet_hour_is(cabinet_feet_hour(400001.0f, 60.0f, 520.0f, 1.0f, 0), false, false, false, 0, 0);
+    feet_hour_is(cabinet_feet_hour(100.0f, 60.0f, 60.0f, 1.0f, 1), false, false, false, 0, 0);
+}
+
 static void reading_is(struct cabinet_reading reading, bool taken, long long whole)
 {
     IS(reading.taken, taken);
@@ -253,6 +318,8 @@ int main(void)
     empties();
     readings();
     months();
+    feet_hours();
+    feet_months();
     years();
     records_are_refused();
     line_by_livestock();

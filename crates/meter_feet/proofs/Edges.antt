@@ -11,6 +11,7 @@ use Rattle.meter_hour.specs.declared.Hour.the-variants.{Taken, Refused}
 use Rattle.meter_hour.specs.declared.Kind.the-variants.{CubicFeet}
 use Rattle.meter_hour.specs.Hour.{gramsIn}
 use Rattle.meter_feet.specs.Feet.{correctedOf, flowIn, contentIn, recordedOf}
+use Rattle.meter_feet.proofs.Looked.{hour}
 
 -- the f32 nearest to n / d
 abbrev nearest : ℕ → ℕ → Float
@@ -18,11 +19,6 @@ nearest n d = round binary32 false n d
 
 abbrev pattern : ℕ → Float
 pattern bits = ofBits binary32 bits
-
--- an hour of a state, with these four readings
-abbrev hour : ℕ → Float → Float → Float → Float → Hour
-hour state flow content temperature pressure =
-    recordedOf (record { flow = flow; content = content; temperature = temperature; pressure = pressure }) state
 
 -- one with 100 cubic feet at 60 per cent, 520 degrees and 1 atm, of which one reading is another
 abbrev with-flow : ℕ → Float → Hour

@@ -9,8 +9,8 @@ use Rattle.meter_series.specs.declared.Value.{the-variants.Recorded, the-varian
 use Rattle.meter_hour.specs.declared.Hour.{Hour, the-variants.Taken, the-variants.Refused}
 use Rattle.meter_feet.specs.declared.{Sample.Sample, Checked.Checked, Checked.the-variants.Counted, Checked.the-variants.Bad}
 
--- a flow as it were at 520 degrees and 1 atm (5.10), in hundredths of a standard cubic foot, rounded down once: of hundredths of a cubic foot,
--- at a temperature in hundredths and a pressure in ten-thousandths
+-- a flow as it were at 520 degrees and 1 atm (5.6, for 5.10), in hundredths of a standard cubic foot, rounded down once: of hundredths of a
+-- cubic foot, at a temperature in hundredths and a pressure in ten-thousandths
 unfoldable pub correctedOf : ℕ → ℕ → ℕ → ℕ
 correctedOf flow temperature pressure = flow * 52000 * pressure / (temperature * 10000)
 

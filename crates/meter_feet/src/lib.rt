@@ -105,7 +105,7 @@ fn content(sample: Sample, state: u8) -> Checked
     Checked::Counted(Value::Recorded(content))
 }
 
-// The standard temperature, 520 degrees in hundredths, and the standard pressure, 1 atm in ten-thousandths (5.10).
+// The standard temperature, 520 degrees in hundredths, and the standard pressure, 1 atm in ten-thousandths (5.6, for 5.10).
 const STANDARD_TEMPERATURE: u64 = 52_000;
 
 const STANDARD_PRESSURE: u64 = 10_000;

@@ -40,7 +40,7 @@ contentOf (Taken flow content) = content
 contentOf Refused = Missing
 
 -- grams of methane in a flow of some content, rounded down: a litre of it weighs 0.68 grams (house); a standard cubic foot weighs 0.0423
--- pounds, each of 454 grams (5.10), and feet are counted in hundredths (02, (iii))
+-- pounds, each of 454 grams (5.6, for 5.10), and feet are counted in hundredths (02, (iii))
 unfoldable pub gramsIn : Kind → ℕ → ℕ → ℕ
 gramsIn CubicMetres litres hundredths = litres * hundredths * density / 1000000
 gramsIn CubicFeet feet hundredths = feet * hundredths * 423 * 454 / 10000000000

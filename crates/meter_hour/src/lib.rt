@@ -65,7 +65,8 @@ fn with_content(flow: Value, content: f32) -> Hour
     }
 }
 
-// What a meter reads its flow in. It decides what the flow is counted in, litres or hundredths of a standard cubic foot, and what that weighs.
+// What a meter reads its flow in. It decides what the flow is counted in, litres or hundredths of a standard cubic foot, and what that
+// weighs.
 pub enum Kind {
     CubicMetres,
     CubicFeet,
@@ -119,7 +120,7 @@ fn weigh(kind: Kind, flow: Value, content: Value) -> Methane
 // The density counts hundredths of a gram in a litre, and the whole has 10,000 hundredths of a per cent.
 const DENSITY_PARTS: u64 = 1_000_000;
 
-// A standard cubic foot of methane weighs 0.0423 pounds, here in ten-thousandths, and a pound has 454 grams (5.10).
+// A standard cubic foot of methane weighs 0.0423 pounds, here in ten-thousandths, and a pound has 454 grams (5.6, for 5.10).
 const POUNDS_IN_CUBIC_FOOT: u64 = 423;
 
 const GRAMS_IN_POUND: u64 = 454;

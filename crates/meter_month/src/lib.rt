@@ -1,4 +1,5 @@
-// The month of one biogas meter, of either kind (01, "The meter month"; 02, (iii)). Each hour is read once, its series are looked at a fixed number of times, and nothing lent is written.
+// The month of one biogas meter, of either kind (01, "The meter month"; 02, (iii)). Each hour is read once, its series are looked at a fixed
+// number of times, and nothing lent is written.
 ghost use mathlib.Core.Path.{_≡_};
 ghost use Prim.Native.Nat.{_≤_, _<_};
 ghost use lib.ListN.{length};
@@ -205,7 +206,8 @@ fn recorded_at(
 ) -> Hour
     requires { ⌜ (hour < length (now flows)) × (hour < length (now contents)) × (hour < length (now temperatures))
         × (hour < length (now pressures)) × (hour < length (now states)) ⌝ }
-    ensures { λ r. ⌜ r ≡ hourIn kind (now (flows .entry)) (now (contents .entry)) (now (temperatures .entry)) (now (pressures .entry)) (now (states .entry)) hour ⌝ }
+    ensures { λ r. ⌜ r ≡ hourIn kind (now (flows .entry)) (now (contents .entry)) (now (temperatures .entry)) (now (pressures .entry))
+        (now (states .entry)) hour ⌝ }
 {
     match kind {
         Kind::CubicMetres => meter_hour::recorded_at(flows, contents, states, hour),
