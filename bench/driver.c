@@ -257,11 +257,11 @@ static void answer_hour(struct cabinet_feet_hour hour)
 
 /* Patterns of a float, from one on by steps, each tried in hours in cubic feet,
  * one by one or as a digest: as a flow, as a temperature and as a pressure, with
- * the others such that a corrected flow tells any two apart and the pattern as a
- * content that is missing; then as a content, where all others are ignored. */
+ * the others such that a corrected flow tells any two apart, and the pattern as a
+ * content that is missing. */
 static void feet_hours(enum kind kind)
 {
-    enum { NO_CONTENT = 2, NO_CORRECTION = 8, HOURS = 4 };
+    enum { NO_CONTENT = 2, HOURS = 3 };
     const float most_flow = 400000;
     const float least_temperature = 400;
     const float most_pressure = 10;
@@ -276,7 +276,6 @@ static void feet_hours(enum kind kind)
             cabinet_feet_hour(value, value, least_temperature, most_pressure, NO_CONTENT),
             cabinet_feet_hour(most_flow, value, value, most_pressure, NO_CONTENT),
             cabinet_feet_hour(most_flow, value, least_temperature, value, NO_CONTENT),
-            cabinet_feet_hour(value, value, value, value, NO_CORRECTION),
         };
         for (uint64_t hour = 0; hour < HOURS; hour++) {
             if (kind == EACH_FEET_HOUR)

@@ -1,12 +1,21 @@
 /* A cabinet in C: posts the records of standard input and prints the years of
  * the book that they make, as the proved program `years` does; but it goes on
  * after a refusal, as a cabinet does that delivers all its records again after
- * an unclean stop. Before that it weighs one meter month. */
+ * an unclean stop. Before that it weighs two meter months. */
 #include <stdio.h>
 
 #include "cabinet.h"
 
 #define HOURS 672
+
+static void print_answer(struct cabinet_month month)
+{
+    if (month.number != 0)
+        printf("refused %llu at %llu\n", (unsigned long long)month.number,
+               (unsigned long long)month.place);
+    else
+        printf("destroyed %llu\n", (unsigned long long)month.destroyed);
+}
 
 /* 01's figure: 672 hours at 100 cubic metres of 60 per cent, with no flow in
  * hours 10 to 14, which are filled. */
@@ -20,13 +29,27 @@ static void print_month(void)
         contents[hour] = 60.0f;
         states[hour] = 10 <= hour && hour <= 14;
     }
-    struct cabinet_month month =
-        cabinet_month(flows, HOURS, contents, HOURS, states, HOURS, 10000);
-    if (month.number != 0)
-        printf("refused %llu at %llu\n", (unsigned long long)month.number,
-               (unsigned long long)month.place);
-    else
-        printf("destroyed %llu\n", (unsigned long long)month.destroyed);
+    print_answer(cabinet_month(flows, HOURS, contents, HOURS, states, HOURS, 10000));
+}
+
+/* The same of a meter in cubic feet, at 520 degrees Rankine and 1 atm: hours 10
+ * to 14 lack their temperature or their pressure, which is 8, and are filled. */
+static void print_feet_month(void)
+{
+    static float flows[HOURS];
+    static float contents[HOURS];
+    static float temperatures[HOURS];
+    static float pressures[HOURS];
+    static uint8_t states[HOURS];
+    for (size_t hour = 0; hour < HOURS; hour++) {
+        flows[hour] = 100.0f;
+        contents[hour] = 60.0f;
+        temperatures[hour] = 520.0f;
+        pressures[hour] = 1.0f;
+        states[hour] = 10 <= hour && hour <= 14 ? 8 : 0;
+    }
+    print_answer(cabinet_feet_month(flows, HOURS, contents, HOURS, temperatures, HOURS, pressures,
+                                    HOURS, states, HOURS, 10000));
 }
 
 static void print_year(unsigned long long number, struct cabinet_year year)
@@ -49,6 +72,7 @@ int main(void)
     size_t bytes;
 
     print_month();
+    print_feet_month();
     if (!cabinet_empty(book, sizeof book))
         return 1;
     while ((bytes = fread(record, 1, sizeof record, stdin)) > 0) {

@@ -9,7 +9,7 @@ use crate::book::{record, Record, LN, RECORD_BYTES};
 use crate::cabinet::{self, BOOK_BYTES};
 use crate::digest;
 use crate::driver::{Changed, Delivered, Delivery, Driver, Patterns, Told, HOURS_OF_A_PATTERN};
-use crate::feet::{FeetHours, LEAST_TEMPERATURE, MOST_FEET, MOST_PRESSURE, NO_CORRECTION};
+use crate::feet::{FeetHours, LEAST_TEMPERATURE, MOST_FEET, MOST_PRESSURE};
 use crate::hours::{Hours, NO_CONTENT};
 use crate::slots::Slots;
 
@@ -203,7 +203,7 @@ impl Sides<'_> {
             let plain = plain_feet_hours(pattern);
             if proved != plain {
                 return Err(format!(
-                    "pattern {pattern:#010x} as flow, temperature, pressure and content in cubic feet: proved {proved:?}, second {plain:?}"
+                    "pattern {pattern:#010x} as flow, temperature and pressure in cubic feet: proved {proved:?}, second {plain:?}"
                 ));
             }
         }
@@ -370,7 +370,6 @@ fn plain_feet_hours(pattern: u32) -> [cabinet::FeetHour; HOURS_OF_A_PATTERN] {
         second::feet::hour(value, value, temperature, pressure, NO_CONTENT),
         second::feet::hour(flow, value, value, pressure, NO_CONTENT),
         second::feet::hour(flow, value, temperature, value, NO_CONTENT),
-        second::feet::hour(value, value, value, value, NO_CORRECTION),
     ];
     hours.map(|hour| {
         let flow = hour.and_then(|hour| hour.flow);

@@ -17,9 +17,9 @@ const FEET_MONTH: u64 = 5;
 const FEET_HOURS: u64 = 6;
 const EACH_FEET_HOUR: u64 = 7;
 
-/// The hours in which a pattern is tried: as a flow, as a temperature, as a
-/// pressure and as a content.
-pub const HOURS_OF_A_PATTERN: usize = 4;
+/// The hours in which a pattern is tried: as a flow, as a temperature and as a
+/// pressure.
+pub const HOURS_OF_A_PATTERN: usize = 3;
 
 /// Records of any lengths, posted past the refusals to an empty book that
 /// stands at an offset of lent memory, and the years asked of it.
@@ -243,14 +243,7 @@ impl Driver {
         self.ask_patterns(EACH_FEET_HOUR, patterns)?;
         patterns
             .each()
-            .map(|_| {
-                Ok([
-                    self.feet_hour()?,
-                    self.feet_hour()?,
-                    self.feet_hour()?,
-                    self.feet_hour()?,
-                ])
-            })
+            .map(|_| Ok([self.feet_hour()?, self.feet_hour()?, self.feet_hour()?]))
             .collect()
     }
 

@@ -332,7 +332,7 @@ fn floats(run: &Run) -> Result<(), String> {
     })?;
     let patterns: u64 = blocks.iter().map(|block| block.count).sum();
     println!("library: {patterns} patterns of f32, as flow and as content");
-    println!("library: .. and as flow, temperature, pressure and content in cubic feet");
+    println!("library: .. and as flow, as temperature and as pressure in cubic feet");
     Ok(())
 }
 
