@@ -136,7 +136,7 @@ fn header(kind: Kind) -> usize
     }
 }
 
-// The month of an input, if it is as long as its counts say.
+// The month of an input, if it is as long as its counts say; more values than the longest month has hours are none.
 fn whole(
     kind: Kind,
     input: &[u8],
@@ -154,6 +154,12 @@ fn whole(
     if input.len() != header(kind) + FLOAT * floats + states {
         return refused(refusals::NO_MONTH, 0);
     }
+    if !fit_a_month(flows, contents) {
+        return refused(refusals::NO_MONTH, 0);
+    }
+    if !fit_a_month(temperatures, pressures) {
+        return refused(refusals::NO_MONTH, 0);
+    }
     lent(kind, input, flows, contents, temperatures, pressures)
 }
 
@@ -167,15 +173,9 @@ fn lent(
     pressures: usize,
 ) -> MonthAnswer
     requires { ⌜ valueAt kind (flows + contents + temperatures + pressures) ≤ length (now input) ⌝ }
-    requires { ⌜ Has kind temperatures pressures ⌝ }
+    requires { ⌜ (flows ≤ mostHours) × (contents ≤ mostHours) × (temperatures ≤ mostHours) × (pressures ≤ mostHours) ⌝ }
     ensures { λ r. ⌜ r ≡ lentOf kind (now (input .entry)) flows contents temperatures pressures ⌝ }
 {
-    if !fit_a_month(flows, contents) {
-        return refused(refusals::NO_MONTH, 0);
-    }
-    if !fit_a_month(temperatures, pressures) {
-        return refused(refusals::NO_MONTH, 0);
-    }
     let flows_at = header(kind);
     let contents_at = flows_at + FLOAT * flows;
     let temperatures_at = contents_at + FLOAT * contents;

@@ -1,56 +1,18 @@
--- `meter_bytes::lent` meets its contract: more values than a month has hours are no month, and else the four arrays begin with the floats.
+-- `meter_bytes::lent` meets its contract: the four arrays begin with the floats, each list's after those of the lists before it.
 -- Assumes nothing.
-use mathlib.Core.Path.{_≡_, sym, _∙_}
-use Prim.Native.Nat.{_+_, _*_, _≤_}
+use mathlib.Core.Path.{_≡_, sym}
+use Prim.Native.Nat.{_+_, _*_}
 use native.Mathlib.Omega.{arith}
-use borrow.Author.Tests.{not-true, not-false}
-use lib.ListN.{length}
 use lib.Seq.{length-take-le}
-use Rattle.meter_series.specs.Series.{mostHours}
-use Rattle.meter_bytes.specs.Format.{headerBytes, valueAt, lentOf}
+use Rattle.meter_bytes.specs.Format.{valueAt, lentOf}
 use Rattle.meter_bytes.proofs.EachFloat.{rest}
-use Rattle.meter_bytes.proofs.Headers.{header-within, both-fit}
-use Rattle.meter_bytes.proofs.Long.{readings-none, others-none}
+use Rattle.meter_bytes.proofs.Headers.{header-within}
 use borrow.Author.Needs.{needs}
 use Rattle.meter_bytes.proofs.lent.Statement.{statement}
 use Rattle.meter_bytes.proofs.lent.Tie as tie
 
--- past the two tests: no list is longer than a month, and the floats stand in the input
-module _ (c : tie.After-header) where
-  abbrev start : tie.Start
-  start = c .before .before .before .before .before .before
-
-  readings : (start .args .flows ≤ mostHours) × (start .args .contents ≤ mostHours)
-  readings = let e = c .before .before .before in both-fit _ _ (sym (e .before .fit-a-month .ensures) ∙ not-false _ (e .if1 .left))
-
-  others : (start .args .temperatures ≤ mostHours) × (start .args .pressures ≤ mostHours)
-  others = let e = c .before in both-fit _ _ (sym (e .before .fit-a-month2 .ensures) ∙ not-false _ (e .if2 .left))
-
-  room :
-      c .header .result + 4 * start .args .flows + 4 * start .args .contents + 4 * start .args .temperatures + 4 * start .args .pressures
-      ≤ length (start .args .input .now)
-  room = omega (arith, c .header .ensures, start .pre .0)
-
-fit-a-month-requires : tie.Need-fit-a-month-requires
-fit-a-month-requires c κs = search needs
-
-refused-requires : tie.Need-refused-requires
-refused-requires c κs = search needs
-
-returns : tie.Need-returns
-returns c = let a = c .before .before .before .before .args in c .refused .ensures ∙ sym (readings-none (a .kind) (a .input .now) (a .flows) (a .contents) (a .temperatures) (a .pressures) (sym (c .before .before .fit-a-month .ensures) ∙ not-true _ (c .before .if1 .taken)))
-
-fit-a-month-requires-2 : tie.Need-fit-a-month-requires-2
-fit-a-month-requires-2 c κs = search needs
-
-refused-requires-2 : tie.Need-refused-requires-2
-refused-requires-2 c κs = search needs
-
-returns-2 : tie.Need-returns-2
-returns-2 c =
-    let s = c .before .before .before .before .before .before in
-    let a = s .args in
-    c .refused2 .ensures ∙ sym (others-none (a .kind) (a .input .now) (a .flows) (a .contents) (a .temperatures) (a .pressures) (s .pre .1) (sym (c .before .before .fit-a-month2 .ensures) ∙ not-true _ (c .before .if2 .taken)))
+abbrev start : tie.After-header → tie.Start
+start c = c .before .before
 
 header-requires : tie.Need-header-requires
 header-requires c κs = search needs
@@ -80,46 +42,46 @@ add-states-at : tie.Need-add-states-at
 add-states-at c = search needs
 
 floats-requires : tie.Need-floats-requires
-floats-requires c κs = (readings c .0, omega (arith, room c))
+floats-requires c κs = search needs
 
 floats-requires-2 : tie.Need-floats-requires-2
-floats-requires-2 c κs = (readings (c .before) .1, omega (arith, room (c .before)))
+floats-requires-2 c κs = search needs
 
 floats-requires-3 : tie.Need-floats-requires-3
-floats-requires-3 c κs = (others (c .before .before) .0, omega (arith, room (c .before .before)))
+floats-requires-3 c κs = search needs
 
 floats-requires-4 : tie.Need-floats-requires-4
-floats-requires-4 c κs = (others (c .before .before .before) .1, omega (arith, room (c .before .before .before)))
+floats-requires-4 c κs = search needs
 
 number-requires : tie.Need-number-requires
-number-requires c κs = (omega (arith, room (c .before .before .before .before), c .before .before .before .before .header .ensures, header-within (start (c .before .before .before .before) .args .kind) .0), search needs)
+number-requires c κs = (omega (arith, start (c .before .before .before .before) .pre .0, header-within (start (c .before .before .before .before) .args .kind) .0), search needs)
 
 cast-efficiency : tie.Need-cast-efficiency
 cast-efficiency c = search needs
 
 array-share-prefix-all-flows : tie.Need-array-share-prefix-all-flows
-array-share-prefix-all-flows c = omega (arith, readings (c .before .before .before .before .before) .0, c .before .before .before .before .floats .ensures .0)
+array-share-prefix-all-flows c = search needs
 
 slice-aggregate-month : tie.Need-slice-aggregate-month
-slice-aggregate-month c = sym (length-take-le _ (c .before .before .before .before .before .floats .result) (omega (arith, readings (c .before .before .before .before .before .before) .0, c .before .before .before .before .before .floats .ensures .0)))
+slice-aggregate-month c = sym (length-take-le _ (c .before .before .before .before .before .floats .result) (omega (arith, start (c .before .before .before .before .before .before) .pre .1 .0, c .before .before .before .before .before .floats .ensures .0)))
 
 array-share-prefix-all-contents : tie.Need-array-share-prefix-all-contents
-array-share-prefix-all-contents c = omega (arith, readings (c .before .before .before .before .before .before) .1, c .before .before .before .before .floats2 .ensures .0)
+array-share-prefix-all-contents c = search needs
 
 slice-aggregate-month-2 : tie.Need-slice-aggregate-month-2
-slice-aggregate-month-2 c = sym (length-take-le _ (c .before .before .before .before .before .floats2 .result) (omega (arith, readings (c .before .before .before .before .before .before .before) .1, c .before .before .before .before .before .floats2 .ensures .0)))
+slice-aggregate-month-2 c = sym (length-take-le _ (c .before .before .before .before .before .floats2 .result) (omega (arith, start (c .before .before .before .before .before .before .before) .pre .1 .1, c .before .before .before .before .before .floats2 .ensures .0)))
 
 array-share-prefix-all-temperatures : tie.Need-array-share-prefix-all-temperatures
-array-share-prefix-all-temperatures c = omega (arith, others (c .before .before .before .before .before .before .before) .0, c .before .before .before .before .floats3 .ensures .0)
+array-share-prefix-all-temperatures c = search needs
 
 slice-aggregate-month-3 : tie.Need-slice-aggregate-month-3
-slice-aggregate-month-3 c = sym (length-take-le _ (c .before .before .before .before .before .floats3 .result) (omega (arith, others (c .before .before .before .before .before .before .before .before) .0, c .before .before .before .before .before .floats3 .ensures .0)))
+slice-aggregate-month-3 c = sym (length-take-le _ (c .before .before .before .before .before .floats3 .result) (omega (arith, start (c .before .before .before .before .before .before .before .before) .pre .1 .2, c .before .before .before .before .before .floats3 .ensures .0)))
 
 array-share-prefix-all-pressures : tie.Need-array-share-prefix-all-pressures
-array-share-prefix-all-pressures c = omega (arith, others (c .before .before .before .before .before .before .before .before) .1, c .before .before .before .before .floats4 .ensures .0)
+array-share-prefix-all-pressures c = search needs
 
 slice-aggregate-month-4 : tie.Need-slice-aggregate-month-4
-slice-aggregate-month-4 c = sym (length-take-le _ (c .before .before .before .before .before .floats4 .result) (omega (arith, others (c .before .before .before .before .before .before .before .before .before) .1, c .before .before .before .before .before .floats4 .ensures .0)))
+slice-aggregate-month-4 c = sym (length-take-le _ (c .before .before .before .before .before .floats4 .result) (omega (arith, start (c .before .before .before .before .before .before .before .before .before) .pre .1 .3, c .before .before .before .before .before .floats4 .ensures .0)))
 
 sub-month : tie.Need-sub-month
 sub-month c = search needs
@@ -133,18 +95,18 @@ part-month-end c = search needs
 month-requires : tie.Need-month-requires
 month-requires c κs = search needs
 
-returns-3 : tie.Need-returns-3
+returns : tie.Need-returns
 unfolding lentOf
-returns-3 c =
+returns c =
     let h = c .before .before .before .before .before .before .before .before .before .before .before in
     let a = start h .args in
-    let k = a .kind in
     let at = h .header .result in
-    let at-0 : valueAt k 0 ≡ at = omega (arith, h .header .ensures) in
-    let at-1 : valueAt k (a .flows) ≡ at + 4 * a .flows = omega (arith, h .header .ensures) in
-    let at-2 : valueAt k (a .flows + a .contents) ≡ at + 4 * a .flows + 4 * a .contents = omega (arith, h .header .ensures) in
-    let at-3 : valueAt k (a .flows + a .contents + a .temperatures) ≡ at + 4 * a .flows + 4 * a .contents + 4 * a .temperatures = omega (arith, h .header .ensures) in
-    let at-4 : valueAt k (a .flows + a .contents + a .temperatures + a .pressures) ≡ at + 4 * a .flows + 4 * a .contents + 4 * a .temperatures + 4 * a .pressures = omega (arith, h .header .ensures) in
+    let header = h .header .ensures in
+    let at-0 : valueAt (a .kind) 0 ≡ at = omega (arith, header) in
+    let at-1 : valueAt (a .kind) (a .flows) ≡ at + 4 * a .flows = omega (arith, header) in
+    let at-2 : valueAt (a .kind) (a .flows + a .contents) ≡ at + 4 * a .flows + 4 * a .contents = omega (arith, header) in
+    let at-3 : valueAt (a .kind) (a .flows + a .contents + a .temperatures) ≡ at + 4 * a .flows + 4 * a .contents + 4 * a .temperatures = omega (arith, header) in
+    let at-4 : valueAt (a .kind) (a .flows + a .contents + a .temperatures + a .pressures) ≡ at + 4 * a .flows + 4 * a .contents + 4 * a .temperatures + 4 * a .pressures = omega (arith, header) in
     rw (
       at-0,
       at-1,
@@ -164,12 +126,6 @@ pub lent-spec : {M : Type 1} → statement M
 lent-spec =
     tie.close
     (tie.spec
-    fit-a-month-requires
-    refused-requires
-    returns
-    fit-a-month-requires-2
-    refused-requires-2
-    returns-2
     header-requires
     mul-contents-at
     add-contents-at
@@ -197,4 +153,4 @@ lent-spec =
     part-month-start
     part-month-end
     month-requires
-    returns-3)
+    returns)
