@@ -1,4 +1,6 @@
 // The book of records: lent memory, sixteen bytes a slot.
+#![tactic(auto)]
+
 ghost use Rattle.std.specs.Prelude.{◌≡◌, ◌+◌, ◌<◌, min, length};
 ghost use Rattle.record_table.specs.Table.{record_bytes};
 ghost use Rattle.record_table.specs.Slot.{slots};
@@ -15,7 +17,7 @@ use refusals::Refusal;
 pub const BYTES: usize = record_table::SLOTS * record_table::RECORD;
 
 // What posting answers.
-#[derive(Drop)]
+#[derive(Clone, Copy)]
 pub enum Posted {
     Taken,
     Refused(Refusal),
@@ -71,7 +73,7 @@ fn fill(book: &mut [u8], slot: usize, content: &[u8]) -> Posted
         });
     }
     let mut record = [0u8; record_table::RECORD];
-    bytes::copy(content, &mut record);
+    record.copy_from_slice(content);
     write(book, slot, &record);
     Posted::Taken
 }
@@ -90,7 +92,7 @@ fn write(book: &mut [u8], slot: usize, content: &[u8])
     ensures { book.new ≡ book_with book.old slot content.now }
 {
     let at = slot * record_table::RECORD;
-    bytes::copy(content, &mut book[at..at + record_table::RECORD]);
+    book[at..at + record_table::RECORD].copy_from_slice(content);
 }
 
 // Posts a run of bytes record by record, and stops at the first that is refused.

@@ -1,4 +1,6 @@
 // The lines and the heads that a book holds: each field of LN and of HD, and the drain marks of a line.
+#![tactic(auto)]
+
 ghost use Rattle.std.specs.Prelude.{◌≡◌, [], ◌∷◌, ◌+◌, ◌*◌, ◌≤◌};
 ghost use Rattle.record_table.specs.Table.{lines, categories, months, ln, record_bytes};
 ghost use Rattle.number_bytes.specs.Number.{number_at};
@@ -11,7 +13,7 @@ use book_slots::Seen;
 use record_fields::Field;
 use record_judge::rows;
 
-#[derive(Drop)]
+#[derive(Clone, Copy)]
 pub struct Line {
     pub system: u64,
     pub category: u64,

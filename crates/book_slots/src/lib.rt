@@ -1,4 +1,6 @@
 // One field of one slot of a book, and what stands in the slots of YR, TP, PE and MT.
+#![tactic(auto)]
+
 ghost use Rattle.std.specs.Prelude.{◌≡◌, not, [], ◌∷◌, ◌+◌, ◌*◌, ◌≤◌, ◌<◌};
 ghost use Rattle.record_table.specs.Table.{months, devices, yr, tp, pe, record_bytes};
 ghost use Rattle.number_bytes.specs.Number.{number_at, signed_of};
@@ -12,14 +14,14 @@ use record_fields::Field;
 use record_judge::rows;
 
 // A field of a slot: nothing where the slot was never filled, and 0 is a value.
-#[derive(Drop)]
+#[derive(Clone, Copy)]
 pub enum Seen {
     Nothing,
     Value(u64),
 }
 
 // A month's temperature, in tenths of a degree.
-#[derive(Drop)]
+#[derive(Clone, Copy)]
 pub enum Warmth {
     Unknown,
     Tenths(i16),

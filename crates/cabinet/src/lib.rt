@@ -1,5 +1,7 @@
 // The C face of the program, for a cabinet's firmware: exports alone, each one call of the function that it
 // stands for. include/cabinet.h says it to a C compiler.
+#![tactic(auto)]
+
 ghost use Rattle.std.specs.Prelude.{◌≡◌};
 ghost use Rattle.book.specs.Book.{answer_of, book_after};
 ghost use Rattle.book.specs.Valid.{Valid};
@@ -25,7 +27,7 @@ const NOT_REFUSED: u64 = 0;
 
 // A record: a refusal's number and place.
 #[repr(C)]
-#[derive(Drop)]
+#[derive(Clone, Copy)]
 pub struct CabinetPosted {
     pub number: u64,
     pub place: u64,
@@ -33,7 +35,7 @@ pub struct CabinetPosted {
 
 // A year: a refusal's number and place, or grams of solids, grams of carbon dioxide equivalent, and tonnes.
 #[repr(C)]
-#[derive(Drop)]
+#[derive(Clone, Copy)]
 pub struct CabinetYear {
     pub number: u64,
     pub place: u64,
@@ -50,7 +52,7 @@ pub struct CabinetYear {
 
 // A meter month: a refusal's number and place, or grams of methane.
 #[repr(C)]
-#[derive(Drop)]
+#[derive(Clone, Copy)]
 pub struct CabinetMonth {
     pub number: u64,
     pub place: u64,
@@ -59,7 +61,7 @@ pub struct CabinetMonth {
 
 // One reading: whether it is taken, and what it counts.
 #[repr(C)]
-#[derive(Drop)]
+#[derive(Clone, Copy)]
 pub struct CabinetReading {
     pub taken: bool,
     pub whole: u64,
@@ -67,7 +69,7 @@ pub struct CabinetReading {
 
 // One hour of a meter in cubic feet: whether it is taken, and its flow and its content, where they are there.
 #[repr(C)]
-#[derive(Drop)]
+#[derive(Clone, Copy)]
 pub struct CabinetFeetHour {
     pub taken: bool,
     pub has_flow: bool,

@@ -1,4 +1,6 @@
 // The Gregorian days of the months that a book counts.
+#![tactic(auto)]
+
 ghost use Rattle.std.specs.Prelude.{◌≡◌, ◌≤◌};
 ghost use Rattle.calendar.specs.Days.{months_in_year, leap_of, february_of, length_of, gone_of, days_of};
 

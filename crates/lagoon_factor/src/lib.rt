@@ -1,4 +1,6 @@
 // The share of a lagoon's volatile solids that a month degrades, in millionths, by the month's temperature.
+#![tactic(auto)]
+
 ghost use Rattle.std.specs.Prelude.{◌≡◌, ◌≤◌, ◌<◌};
 ghost use Rattle.lagoon_factor.specs.Rule.{cold_end, hot_end};
 ghost use Rattle.lagoon_factor.specs.Factor.{ruled_of, factor_of};

@@ -1,4 +1,6 @@
 // Equation 5.3: what a month enters into a line's lagoon, and what becomes of it.
+#![tactic(auto)]
+
 ghost use Rattle.std.specs.Prelude.{◌≡◌, ◌≤◌, ◌<◌};
 ghost use Rattle.lagoon_factor.specs.Rule.{million};
 ghost use Rattle.lagoon_month.specs.Month.{entered_of, empty_of, available_of, outcome_of};
@@ -28,7 +30,7 @@ pub fn entered(heads: u64, table_solids: u64, mass: u64, share: u64, days: u64) 
 }
 
 // A month's figures: what entered, the temperature factor, and whether the line was drained.
-#[derive(Drop)]
+#[derive(Clone, Copy)]
 pub struct Month {
     pub entered: Solids,
     pub factor: u64,
@@ -36,7 +38,7 @@ pub struct Month {
 }
 
 // What a month hands back: the next standing, what degraded and what was removed.
-#[derive(Drop)]
+#[derive(Clone, Copy)]
 pub struct Outcome {
     pub next: Standing,
     pub degraded: Solids,
@@ -45,7 +47,7 @@ pub struct Outcome {
 
 // What stands in a line's lagoon as a month begins: what the month before handed on. `empty` and `month`
 // alone make one.
-#[derive(Drop)]
+#[derive(Clone, Copy)]
 pub struct Standing(Solids);
 
 impl Standing {

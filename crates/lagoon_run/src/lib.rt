@@ -1,4 +1,6 @@
 // The lagoon months of a line, one after the other: each starts from what the month before handed on.
+#![tactic(auto)]
+
 ghost use Rattle.std.specs.Prelude.{◌≡◌, ◌+◌, ◌≤◌, ◌<◌, length};
 ghost use Rattle.lagoon_factor.specs.Rule.{million};
 ghost use Rattle.lagoon_month.specs.Month.{available_of};
@@ -10,7 +12,7 @@ use lagoon_month::{Month, Standing};
 use units::Solids;
 
 // The totals of a run of months, and the standing that the last of them handed on.
-#[derive(Drop)]
+#[derive(Clone, Copy)]
 pub struct Totals {
     pub entered: Solids,
     pub degraded: Solids,

@@ -1,4 +1,6 @@
 // A meter month as bytes: the mark, CM or CF, the efficiency, the counts of its lists, and then the values that they count.
+#![tactic(auto)]
+
 ghost use Rattle.std.specs.Prelude.{◌≡◌, ◌&&◌, ◌+◌, ◌*◌, ◌≤◌, leb, length, take};
 ghost use Rattle.refusals.specs.Refusal.{refusal};
 ghost use Rattle.meter_hour.specs.declared.Kind.TheVariants.{CubicMetres, CubicFeet};

@@ -1,4 +1,6 @@
 // An hour of a meter in cubic feet (02, (iii)): what it recorded, its flow corrected by temperature and pressure, or that it is refused.
+#![tactic(auto)]
+
 ghost use Rattle.std.specs.Prelude.{◌≡◌, ◌≤◌, ◌<◌, length};
 ghost use Rattle.meter_feet.specs.Feet.{corrected_of, flow_in, content_in, recorded_of, hour_at};
 
@@ -8,7 +10,7 @@ use meter_series::Value;
 
 // What the meter read in an hour: a flow in cubic feet, a content in per cent, a temperature in degrees Rankine and an absolute pressure in
 // atm. What the hour's state says is missing is not looked at.
-#[derive(Drop)]
+#[derive(Clone, Copy)]
 pub struct Sample {
     pub flow: f32,
     pub content: f32,
@@ -17,7 +19,7 @@ pub struct Sample {
 }
 
 // A value of an hour, checked: counted, where it is there, or bad.
-#[derive(Drop)]
+#[derive(Clone, Copy)]
 enum Checked {
     Counted(Value),
     Bad,

@@ -1,6 +1,8 @@
 // Filling the gaps of a month's series (01, "The meter month"), whatever its numbers count.
 //
 // A run of missing hours is walked once, at its first hour, and what fills it is worked out there, so that the whole is linear in the hours.
+#![tactic(auto)]
+
 ghost use Rattle.std.specs.Prelude.{◌≡◌, false, eqb, ℕ, ◌*◌, ◌≤◌, ◌<◌, length};
 ghost use Rattle.meter_series.specs.Series.{is_recorded, series, amount, most_amount, most_hours, AtMost};
 ghost use Rattle.meter_gaps.specs.Filling.{neighbours, plus, total_of, mean_of, end_of, average_of, fill_of, fill_from, or_else, start_of, filled};

@@ -1,4 +1,6 @@
 // An hour of a meter (01, "The meter month"; 02, (iii)): what it recorded, or that it is refused, and what of that was destroyed.
+#![tactic(auto)]
+
 ghost use Rattle.std.specs.Prelude.{◌≡◌, ◌||◌, ◌≤◌, ◌<◌, length};
 ghost use Rattle.units.specs.Grams.{methane};
 ghost use Rattle.meter_reading.specs.Exact.{hundredths_of};
@@ -16,7 +18,7 @@ pub const WHOLE_EFFICIENCY: u32 = 10_000;
 
 // An hour of a month: taken, with its flow, in what the meter's kind counts, and its content, in hundredths of a per cent, where they are
 // there; or refused.
-#[derive(Drop)]
+#[derive(Clone, Copy)]
 pub enum Hour {
     Taken(Value, Value),
     Refused,
@@ -66,7 +68,7 @@ fn with_content(flow: Value, content: f32) -> Hour
 
 // What a meter reads its flow in. It decides what the flow is counted in, litres or hundredths of a standard cubic foot, and what that
 // weighs.
-#[derive(Drop)]
+#[derive(Clone, Copy)]
 pub enum Kind {
     CubicMetres,
     CubicFeet,

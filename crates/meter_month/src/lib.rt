@@ -1,5 +1,7 @@
 // The month of one biogas meter, of either kind (01, "The meter month"; 02, (iii)). Each hour is read once, its series are looked at a fixed
 // number of times, and nothing lent is written.
+#![tactic(auto)]
+
 ghost use Rattle.std.specs.Prelude.{◌≡◌, ◌≤◌, ◌<◌, length};
 ghost use Rattle.refusals.specs.Refusal.{refusal};
 ghost use Rattle.units.specs.Grams.{methane};
@@ -15,7 +17,7 @@ use meter_hour::{Hour, Kind};
 use refusals::Refusal;
 use units::Methane;
 
-#[derive(Drop)]
+#[derive(Clone, Copy)]
 pub enum MonthAnswer {
     Destroyed(Methane),
     Refused(Refusal),

@@ -1,10 +1,12 @@
 // A meter's readings as whole numbers (01, "The meter month"; 02, (iii)). Comparisons refuse what is no reading, a product that is exact scales it,
 // and the floor is worked out from its bits, so that nothing is rounded up on the way.
+#![tactic(auto)]
+
 ghost use Rattle.std.specs.Prelude.{◌≡◌, ◌^◌, ◌<◌, ◌≤◌, T};
 ghost use Rattle.meter_reading.specs.Exact.{times_down, is_between, scaled_of, litres_of, hundredths_of, cubic_feet_of, temperature_of, pressure_of};
 
 // A float as a whole number; or turned down, since it is not a number, infinite, too small or too large.
-#[derive(Drop)]
+#[derive(Clone, Copy)]
 pub enum Measure {
     Whole(u64),
     TurnedDown,

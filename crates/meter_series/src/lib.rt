@@ -1,9 +1,11 @@
 // A month's series: whole numbers recorded hour by hour, or missing, whatever they count.
+#![tactic(auto)]
+
 ghost use Rattle.std.specs.Prelude.{◌≡◌, ◌≤◌};
 ghost use Rattle.meter_series.specs.Series.{is_recorded, value_of, series, amount, most_amount};
 
 // What an hour of a series has: a whole number, or nothing.
-#[derive(Drop)]
+#[derive(Clone, Copy)]
 pub enum Value {
     Recorded(u64),
     Missing,

@@ -1,9 +1,11 @@
 // An hour's reading, by its state: what is missing is not there to be looked at.
+#![tactic(auto)]
+
 ghost use Rattle.std.specs.Prelude.{◌≡◌, ◌<◌, length};
 ghost use Rattle.meter_state.specs.State.{has, is_out, reading_at};
 
 // Flow and content, one of them, or nothing.
-#[derive(Drop)]
+#[derive(Clone, Copy)]
 pub enum Reading {
     Both(f32, f32),
     NoFlow(f32),

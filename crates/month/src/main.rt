@@ -2,6 +2,8 @@
 //
 // The input is read until it ends, or until it is longer than the longest month: what would follow changes nothing (`proofs/Long.antt` of `meter_bytes`). A read
 // that fails is not taken for the input's end: a line on standard error says so, and no figure is printed.
+#![tactic(auto)]
+
 ghost use Rattle.std.specs.Prelude.{◌<◌, length};
 ghost use Rattle.program_input.specs.Got.{Room};
 ghost use Rattle.meter_bytes.specs.Format.{longest_bytes};
@@ -17,7 +19,7 @@ mod text;
 const BUFFER: usize = meter_bytes::LONGEST + 1;
 
 // The answer for the month that standard input holds, or that a read failed.
-#[derive(Drop)]
+#[derive(Clone, Copy)]
 enum Outcome {
     Stated(MonthAnswer),
     Failed,

@@ -1,4 +1,6 @@
 // Numbers from bytes, the lowest byte first, whatever the bytes are of.
+#![tactic(auto)]
+
 ghost use Rattle.std.specs.Prelude.{◌≡◌, ◌+◌, ◌^◌, ◌≤◌, ◌<◌, length};
 ghost use Rattle.number_bytes.specs.Number.{number_at, signed_of};
 

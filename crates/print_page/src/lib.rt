@@ -1,5 +1,7 @@
 // What the programs print, laid as bytes into a lent page. Each function lays its text from a place on, leaves every
 // other byte of the page as it was, and returns the place after the text.
+#![tactic(auto)]
+
 ghost use Rattle.std.specs.Prelude.{◌≡◌, [], ◌∷◌, ◌++◌, ◌+◌, ◌≤◌, ◌<◌, length, nat_abs};
 ghost use Rattle.print_page.specs.Number.{base, digit, decimal, signed};
 ghost use Rattle.print_page.specs.Page.{Lays};
@@ -21,7 +23,7 @@ pub fn lay_word(page: &mut [u8], at: usize, word: &[u8]) -> usize
     ensures { Lays page.old at word.now result page.new }
 {
     let end = at + word.len();
-    bytes::copy(word, &mut page[at..end]);
+    page[at..end].copy_from_slice(word);
     end
 }
 

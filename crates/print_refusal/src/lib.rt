@@ -1,4 +1,6 @@
 // A refusal as it is printed: of a record, of a year or of a meter's month.
+#![tactic(auto)]
+
 ghost use Rattle.std.specs.Prelude.{◌+◌, ◌≤◌, length};
 ghost use Rattle.print_page.specs.Page.{Lays};
 ghost use Rattle.print_refusal.specs.Text.{refusal_text};

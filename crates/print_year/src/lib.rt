@@ -1,5 +1,7 @@
 // The four lines of a stated year, laid as bytes into a lent page. Each function lays its text from a place on, leaves
 // every other byte of the page as it was, and returns the place after the text.
+#![tactic(auto)]
+
 ghost use Rattle.std.specs.Prelude.{◌++◌, ◌+◌, ◌≤◌, length};
 ghost use Rattle.print_page.specs.Number.{decimal};
 ghost use Rattle.print_page.specs.Page.{Lays};

@@ -1,5 +1,7 @@
 // What the year program prints for a book: its years from the first to the last, or to the first that is refused. They are
 // laid as bytes into a lent page, whose other bytes stay, and the place after them is returned.
+#![tactic(auto)]
+
 ghost use Rattle.std.specs.Prelude.{◌≤◌, length};
 ghost use Rattle.book.specs.Valid.{Valid};
 ghost use Rattle.print_page.specs.Page.{Lays};

@@ -1,4 +1,6 @@
 // Records read from standard input, posted block by block: a record that a block's end cuts is held for the next one.
+#![tactic(auto)]
+
 ghost use Rattle.std.specs.Prelude.{◌≡◌, ◌-◌, ◌≤◌, length};
 ghost use Rattle.record_table.specs.Table.{record_bytes};
 ghost use Rattle.book.specs.Run.{records_of, answer_all, book_all};
@@ -12,7 +14,7 @@ use record_table::RECORD;
 use refusals::Refusal;
 
 // How the reading ended: with the input's end, all records taken; at a refusal; or with a read that failed.
-#[derive(Drop)]
+#[derive(Clone, Copy)]
 pub enum Ending {
     Ended,
     Refused(Refusal),
@@ -20,7 +22,7 @@ pub enum Ending {
 }
 
 // What posting a block gave: the number of bytes of a cut record that are held for the next block, or a refusal.
-#[derive(Drop)]
+#[derive(Clone, Copy)]
 enum Fed {
     Held(usize),
     Refused(Refusal),

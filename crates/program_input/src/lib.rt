@@ -1,4 +1,6 @@
 // Standard input, read into lent bytes. A read that fails never passes for the end of the input.
+#![tactic(auto)]
+
 ghost use Rattle.std.specs.Prelude.{◌≡◌, ◌-◌, ◌<◌, length, take};
 ghost use Rattle.program_input.specs.Got.{got_by, Room};
 
@@ -8,7 +10,7 @@ use libc::STDIN_FILENO;
 const TRIES: u64 = 1_000_000;
 
 // What a read gave: a number of bytes, 0 at the input's end; or that it failed.
-#[derive(Drop)]
+#[derive(Clone, Copy)]
 pub enum Got {
     Bytes(usize),
     Failed,

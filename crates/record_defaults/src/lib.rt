@@ -1,4 +1,6 @@
 // The protocol's defaults (02, (i)): the mass, the table solids and the B0 of a livestock, by Tables A.2, A.3 and A.5.
+#![tactic(auto)]
+
 pub mod tables;
 
 ghost use Rattle.std.specs.Prelude.{◌≡◌, ◌≤◌, ◌<◌, ◌/◌, ◌%◌, length};
@@ -7,7 +9,7 @@ ghost use Rattle.record_defaults.specs.Tables.{Livestock, State, state_count, co
 ghost use Rattle.record_defaults.specs.StandsFor.{Named, stands_for};
 
 // What Table A.3 has of a livestock's solids: a value of its own, in hundredths of a kilogram a day for 1,000 kg of animal, or a column of Table A.5.
-#[derive(Drop)]
+#[derive(Clone, Copy)]
 pub enum SolidsEntry {
     Own(u16),
     Column(usize),

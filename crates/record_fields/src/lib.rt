@@ -1,14 +1,16 @@
 // One entry of a record: a field against its range, bytes that must be 0.
+#![tactic(auto)]
+
 ghost use Rattle.std.specs.Prelude.{◌≡◌, ◌&&◌, ◌+◌, ◌≤◌, leb, length};
 ghost use Rattle.record_table.specs.Table.{from};
 ghost use Rattle.record_fields.specs.Entry.{outside_at, nonzero_at};
 
 // A field: its offset, its bytes, its lowest and its highest value.
-#[derive(Drop)]
+#[derive(Clone, Copy)]
 pub struct Field(pub usize, pub usize, pub u64, pub u64);
 
 // Bytes that must be 0: the offset of the first, and how many.
-#[derive(Drop)]
+#[derive(Clone, Copy)]
 pub struct Zeros(pub usize, pub usize);
 
 // The offset of the first of some zero bytes that is not 0; `later` where all are 0.

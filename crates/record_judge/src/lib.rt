@@ -1,4 +1,6 @@
 // A record alone: its mark, its zero bytes and its fields; and what it does, where nothing is wrong with them.
+#![tactic(auto)]
+
 pub mod rows;
 
 ghost use Rattle.std.specs.Prelude.{◌≡◌, cond, ◌&&◌, [], ◌∷◌, ◌+◌, ◌^◌, ◌≤◌, ◌<◌, eqb, leb, pos, neg_ℤ, length, drop};
@@ -31,7 +33,7 @@ const ANAEROBIC: u8 = 0;
 
 // What a record is judged to do: put sixteen bytes into a slot, which are its own unless it is a defaults line; empty a slot, which no mark does yet; or
 // nothing, since it is refused.
-#[derive(Drop)]
+#[derive(Clone, Copy)]
 pub enum Judged {
     Refused(Refusal),
     Put(usize),

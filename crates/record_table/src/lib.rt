@@ -1,4 +1,6 @@
 // How many lines, categories, months and devices there are, and the slot of every key.
+#![tactic(auto)]
+
 ghost use Rattle.std.specs.Prelude.{◌≡◌, [], ◌∷◌, ◌+◌, ◌-◌, ◌^◌, ◌<◌};
 ghost use Rattle.record_table.specs.Table.{yr, ln, hd, tp, dr, pe, mt};
 ghost use Rattle.record_table.specs.Slot.{index, slot_of};
@@ -33,10 +35,10 @@ const FIRST_MT: usize = FIRST_PE + MONTHS;
 pub const SLOTS: usize = FIRST_MT + MONTHS * DEVICES;
 
 // A mark's key of one byte, or of two: the first of its slots, and the highest value of each byte.
-#[derive(Drop)]
+#[derive(Clone, Copy)]
 pub struct One(pub usize, pub usize);
 
-#[derive(Drop)]
+#[derive(Clone, Copy)]
 pub struct Two(pub usize, pub usize, pub usize);
 
 pub const LN: One = One(FIRST_LN, LINES);

@@ -1,4 +1,6 @@
 // From grams of carbon dioxide equivalent to tonnes.
+#![tactic(auto)]
+
 ghost use Rattle.std.specs.Prelude.{◌≡◌};
 ghost use Rattle.tonnes.specs.Tonnes.{net_of, credited_of};
 

@@ -2,7 +2,7 @@ ghost use Rattle.std.specs.Prelude.{◌≡◌, ◌+◌, ◌<◌, ◌^◌};
 ghost use Rattle.units.specs.Grams.{co2e};
 
 // Grams of carbon dioxide equivalent.
-#[derive(Drop)]
+#[derive(Clone, Copy)]
 pub struct Co2e(pub(crate) u64);
 
 impl Co2e {

@@ -3,6 +3,8 @@
 //
 // The fields are private: outside this crate only `of_grams` makes a unit of a bare number, which names the unit at that place, and
 // no sum, difference or share mixes two units.
+#![tactic(auto)]
+
 mod co2e;
 mod methane;
 mod solids;

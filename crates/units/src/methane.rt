@@ -4,7 +4,7 @@ ghost use Rattle.units.specs.Grams.{methane, share_of, warming_of};
 use crate::Co2e;
 
 // Grams of methane.
-#[derive(Drop)]
+#[derive(Clone, Copy)]
 pub struct Methane(u64);
 
 impl Methane {

@@ -7,7 +7,7 @@ use crate::{Co2e, DENSITY};
 const B0_RULE_PARTS: u64 = 10_000;
 
 // Grams of volatile solids.
-#[derive(Drop)]
+#[derive(Clone, Copy)]
 pub struct Solids(u64);
 
 impl Solids {

@@ -1,4 +1,6 @@
 // A year of a book: what it lacks, its lines and its credit.
+#![tactic(auto)]
+
 ghost use Rattle.std.specs.Prelude.{◌≡◌};
 ghost use Rattle.book.specs.Valid.{Valid};
 ghost use Rattle.year_months.specs.Asks.{InPeriod};
@@ -18,7 +20,7 @@ const LAST_YEAR: u64 = 10;
 
 // The year's figures: solids over the anaerobic lines, with what is carried past the year's end; carbon
 // dioxide equivalent; and tonnes.
-#[derive(Drop)]
+#[derive(Clone, Copy)]
 pub struct Figures {
     pub entered: Solids,
     pub degraded: Solids,
@@ -31,7 +33,7 @@ pub struct Figures {
     pub credited: u64,
 }
 
-#[derive(Drop)]
+#[derive(Clone, Copy)]
 pub enum Answer {
     Stated(Figures),
     Refused(Refusal),

@@ -1,4 +1,6 @@
 // The year's credit: what the operator entered, the lesser of modelled and metered, and the total.
+#![tactic(auto)]
+
 ghost use Rattle.std.specs.Prelude.{◌≡◌, ◌≤◌, ◌<◌, ◌^◌, pos};
 ghost use Rattle.record_table.specs.Table.{months};
 ghost use Rattle.book.specs.Valid.{Valid};
@@ -16,7 +18,7 @@ const KILOGRAM: u64 = 1_000;
 
 // What the operator entered: project methane, the baseline's and the project's carbon dioxide, and what
 // the devices destroyed.
-#[derive(Drop)]
+#[derive(Clone, Copy)]
 pub struct Operator {
     pub project_methane: Co2e,
     pub baseline_co2: Co2e,

@@ -1,4 +1,6 @@
 // The heads of a year, summed: the annual average population of Equations 5.3 and 5.4, twelve times.
+#![tactic(auto)]
+
 ghost use Rattle.std.specs.Prelude.{◌≡◌, ◌≤◌};
 ghost use Rattle.record_table.specs.Table.{categories, months};
 ghost use Rattle.book.specs.Valid.{Valid};

@@ -1,5 +1,7 @@
 // The lines of a year: Equation 5.3 for the anaerobic ones, month by month from the first, and Equation 5.4
 // for the others.
+#![tactic(auto)]
+
 ghost use Rattle.std.specs.Prelude.{◌≡◌, Bool, false, ℕ, ◌-◌, ◌≤◌, length, get_or};
 ghost use Rattle.calendar.specs.Days.{months_in_year};
 ghost use Rattle.lagoon_month.specs.Asks.{heads_most};

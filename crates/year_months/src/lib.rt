@@ -1,4 +1,6 @@
 // The amount in a slot, and what a book says of a year's months.
+#![tactic(auto)]
+
 ghost use Rattle.std.specs.Prelude.{◌≡◌, ℕ, ◌+◌, ◌≤◌};
 ghost use Rattle.calendar.specs.Days.{months_in_year, days_of};
 ghost use Rattle.record_table.specs.Table.{months};

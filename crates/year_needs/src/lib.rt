@@ -1,4 +1,6 @@
 // The records that a year has to have before it is stated: refusal 8.
+#![tactic(auto)]
+
 ghost use Rattle.std.specs.Prelude.{◌≡◌, ◌&&◌, ◌≤◌};
 ghost use Rattle.record_table.specs.Table.{lines, categories, months};
 ghost use Rattle.book.specs.Valid.{Valid};
@@ -10,7 +12,7 @@ ghost use Rattle.year_needs.specs.Asks.{Lined};
 use book_slots::Warmth;
 
 // Whether a year has its records, or the place of the refusal.
-#[derive(Drop)]
+#[derive(Clone, Copy)]
 pub enum Completeness {
     Complete,
     Lacking(usize),

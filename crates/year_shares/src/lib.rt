@@ -1,4 +1,6 @@
 // The shares of a category, which have to fit into the whole: refusal 7.
+#![tactic(auto)]
+
 ghost use Rattle.std.specs.Prelude.{◌≡◌};
 ghost use Rattle.book.specs.Valid.{Valid};
 ghost use Rattle.record_table.specs.Table.{lines};

@@ -1,5 +1,7 @@
 // The sums of a year over one line, or over several: the solids of the anaerobic ones, and the baseline of
 // all.
+#![tactic(auto)]
+
 ghost use Rattle.std.specs.Prelude.{◌≡◌, ◌+◌, ◌≤◌, ◌<◌, ◌^◌};
 ghost use Rattle.lagoon_month.specs.Asks.{grams_most};
 ghost use Rattle.year_sums.specs.Sums.{nothing, baseline_alone, anaerobic_of, plus};
@@ -9,7 +11,7 @@ use lagoon_run::Totals;
 use units::{Co2e, Solids};
 
 // Sums over lines: solids of the anaerobic ones, and the baseline.
-#[derive(Drop)]
+#[derive(Clone, Copy)]
 pub struct Sums {
     pub entered: Solids,
     pub degraded: Solids,

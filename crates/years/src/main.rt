@@ -1,5 +1,7 @@
 // The year program: reads records from standard input, posts them, and prints the years of the book that they make
 // or the refusal that ended the reading.
+#![tactic(auto)]
+
 ghost use Rattle.std.specs.Prelude.{◌≡◌, ◌≤◌, length};
 ghost use Rattle.record_table.specs.Table.{record_bytes};
 ghost use Rattle.book.specs.Book.{book_bytes};
@@ -13,7 +15,7 @@ use program_feed::Ending;
 const BLOCK: usize = 65_536;
 
 // The end of the text that is laid for standard input, or that a read failed.
-#[derive(Drop)]
+#[derive(Clone, Copy)]
 enum Outcome {
     Laid(usize),
     Failed,
