@@ -2,12 +2,8 @@
 use mathlib.Core.Path.{refl}
 use borrow.Author.Rules.{rules}
 use Rattle.record_defaults.specs.Tables.{b0s, b0_of}
-use Rattle.record_defaults.proofs.b0.Statement.{statement}
-use Rattle.record_defaults.proofs.b0.Tie as tie
+use Rattle.record_defaults.proofs.b0.Goals as goal
 
-returns : tie.Need-returns
+pub returns : goal.returns
 unfolding b0_of b0s
 returns c = refl
-
-pub b0-spec : {M : Type 1} → statement M
-b0-spec = tie.close (tie.spec (λ c. search rules) (λ c. search rules) returns)

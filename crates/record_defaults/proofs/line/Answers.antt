@@ -1,0 +1,19 @@
+-- `record_defaults::line` meets its contract: its sixteen bytes are those of the definition, one by one. Assumes nothing.
+use borrow.Author.Rules.{rules}
+use Rattle.record_defaults.specs.StandsFor.{stands_for}
+use Rattle.record_defaults.proofs.line.Goals as goal
+
+pub returns : goal.returns
+unfolding stands_for
+returns c =
+    let solids-low = c.before.before.before.before.before.before.before.before in
+    let mass = solids-low.before.before.before.before in
+    rw (
+      solids-low.low_byte.ensures,
+      c.high_byte.ensures,
+      c.low_byte-2.ensures,
+      c.high_byte-2.ensures,
+      c.b0.ensures,
+      mass.mass.ensures,
+      mass.before.table_solids.ensures,
+    )
