@@ -6,14 +6,12 @@ use Rattle.record_defaults.proofs.line.Goals as goal
 pub returns : goal.returns
 unfolding stands_for
 returns c =
-    let solids-low = c.before.before.before.before.before.before.before.before in
-    let mass = solids-low.before.before.before.before in
     rw (
-      solids-low.low_byte.ensures,
+      c.low_byte.ensures,
       c.high_byte.ensures,
       c.low_byte-2.ensures,
       c.high_byte-2.ensures,
       c.b0.ensures,
-      mass.mass.ensures,
-      mass.before.table_solids.ensures,
+      c.mass-mass.ensures,
+      c.table_solids-solids.ensures,
     )
