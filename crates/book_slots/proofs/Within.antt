@@ -89,10 +89,10 @@ module _ (book : List ℕ) (v : Valid book) (row : ℕ) (h : row < length table)
     pub as_read : number_at (record_at book (slot_of row bytes)) (place_of row n) (bytes_of row n) ≡ number_of book row bytes n
     as_read = number_slot book (slot_of row bytes) (place_of row n) (bytes_of row n) (inside_record row h n l)
 
-    pub filled-ranged :
+    pub filled_ranged :
         (wide : ℕ) (range : Range) → get_or (entries_of row) n (zeros 0) ≡ field wide range → filled_of book row bytes ≡ true →
         in_range range (record_at book (slot_of row bytes)) (number_of book row bytes n) ≡ true
-    filled-ranged wide range e f =
+    filled_ranged wide range e f =
         subst (λ (x : ℕ). in_range range (record_at book (slot_of row bytes)) x ≡ true) as_read
         (nth after_mark (entries_of row) (record_at book (slot_of row bytes)) n wide range (its_fields f) l e)
 

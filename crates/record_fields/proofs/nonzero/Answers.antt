@@ -1,5 +1,5 @@
 -- `record_fields::nonzero` meets its contract: the bytes passed are 0. Assumes nothing.
-use Rattle.record_fields.proofs.Scan.{nonzero-step}
+use Rattle.record_fields.proofs.Scan.{nonzero_step}
 use mathlib.Core.Path.{◌≡◌, sym, ap, ◌∙◌}
 use Prim.Native.Nat.{ℕ, ◌+◌, ◌-◌, ◌≤◌}
 use native.Mathlib.Nat.{sub-zero, add-zero}
@@ -15,12 +15,12 @@ loop-i-init c = (search rules, rw (add-zero, sub-zero))
 pub returns-then-posted-at-ne0 : goal.returns-then-posted-at-ne0
 returns-then-posted-at-ne0 c =
     let a = c.args in
-    sym (c.loop-i.invariant.1 ∙ nonzero-step a.posted.now a.zeros.0 a.zeros.1 a.later c.loop-i.i c.loop-i-test.true ∙ rw (ne_eqb _ _ c.if-posted-at-ne0.true))
+    sym (c.loop-i.invariant.1 ∙ nonzero_step a.posted.now a.zeros.0 a.zeros.1 a.later c.loop-i.i c.loop-i-test.true ∙ rw (ne_eqb _ _ c.if-posted-at-ne0.true))
 
 pub loop-i-preserved : goal.loop-i-preserved
 loop-i-preserved c =
     let a = c.args in
-    (search rules, c.loop-i.invariant.1 ∙ nonzero-step a.posted.now a.zeros.0 a.zeros.1 a.later c.loop-i.i c.loop-i-test.true ∙ rw (eq-eqb _ _ c.if-posted-at-ne0.false))
+    (search rules, c.loop-i.invariant.1 ∙ nonzero_step a.posted.now a.zeros.0 a.zeros.1 a.later c.loop-i.i c.loop-i-test.true ∙ rw (eq-eqb _ _ c.if-posted-at-ne0.false))
 
 pub returns : goal.returns
 unfolding nonzero_at
