@@ -37,7 +37,8 @@ module _ (whole first second : Totals) (n e a b factor : ℕ) (adds : a + b ≡ 
   with_beside drained =
       let gap = le_dest kept.carried in
       let split = left_split factor (a + first.standing.0.0) (b + second.standing.0.0) (e + whole.standing.0.0) gap.0 small (omega arith) in
-      elim drained [ true ↦ omega arith | false ↦ omega arith ]
+      elim drained as (λ d. Beside (with_of whole (at factor d e)) (with_of first (at factor d a)) (with_of second (at factor d b)) (suc n))
+      [ true ↦ omega arith | false ↦ omega arith ]
 
 -- from any standings of which the parts' are together so many grams more than the whole's
 module _ (whole first second : ℕ → Month) (from from-1 from-2 : Standing) (more : ℕ) (stands : from-1.0.0 + from-2.0.0 ≡ from.0.0 + more) where
