@@ -12,7 +12,7 @@ import os
 import re
 import sys
 
-SIGNATURE = re.compile(r"^(\s*)(?:(?:abbrev|unfoldable|pub|record|data)\s+)*([^\s:(){}.,]+)((?:\s+[({].*?)?)\s+:(?=\s)")
+SIGNATURE = re.compile(r"^(\s*)(?:(?:abbrev|unfoldable|pub|record|data)\s+)*([^\s:(){}.,]+)((?:\s+[({].*?)?)\s+:(?=\s|$)")
 TOKEN = re.compile(r"[^\s(){}\[\],;.\"`/]+")
 FUNCTION = re.compile(r"\bfn\s+(\w+)")
 # What the kit makes or has under a name of this form, and what only happens to be declared by a proof of one function.
@@ -20,6 +20,7 @@ KIT = {"in-loop"}
 # The functions of src/, as a proof names a call of one.
 CALLS = {}
 # Names that port.py turned itself, as it found two words of them in the kit's library; the pages and edits still have the first form.
+ODD = {"handed_on-one": "handed_on_one", "getD-out": "get_or_out"}
 TURNED = {
     "above-half": "above_half", "added-is": "added_is", "after-is": "after_is", "alike-same": "alike_same", "all-end": "all_end",
     "all-fit": "all_fit", "all-told": "all_told", "and-l": "and_l", "and-left": "and_left", "and-r": "and_r", "and-right": "and_right",
@@ -97,9 +98,9 @@ def declared(root):
                 if m and not line.lstrip().startswith("--"):
                     stands.add(m.group(2))
     stands -= KIT
-    found = dict(TURNED)
-    found.update((name, snake(name)) for name in stands if wants(name) and name != "handed_on-one")
-    found["handed_on-one"] = "handed_on_one"
+    found = {name: snake(name) for name in stands if wants(name)}
+    found.update(TURNED)
+    found.update(ODD)
     # A definition in camel case keeps its words; a lemma of the same words is said to be one.
     definitions = {snake(name) for name in stands if "-" not in name and wants(name)}
     for name in stands:

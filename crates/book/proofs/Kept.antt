@@ -32,9 +32,9 @@ same_or_not a b false e = inr (eqb-false a b e)
 abbrev Fits : ℕ → List ℕ → Type 0
 Fits k bytes = (bytes ≡ nothing) ⊎ Stands k bytes
 
-with-valid :
+with_valid :
     (book : List ℕ) (k : ℕ) (bytes : List ℕ) → Valid book → k < slots → length bytes ≡ record_bytes → Fits k bytes → Valid (book_with book k bytes)
-with-valid book k bytes v h long fits =
+with_valid book k bytes v h long fits =
     record {
       size = with_length book k bytes v.size h long;
       each = λ j hj. ⊎_elim
@@ -48,8 +48,8 @@ unfolding book_by
 by book r (RefusedRecord x) e v = v
 by book r (Put k) e v =
     let stands : Stands k (stored_of r) = record { judged_so = stored_judged r k e; stored_so = stored_once r } in
-    either Valid (free book k) (with-valid book k (stored_of r) v (put_below r k e) (stored_long r k e) (inr stands)) v
-by book r (Empty k) e v = with-valid book k nothing v (emptied_below r k e) (length-replicate {A = ℕ} record_bytes 0) (inl refl)
+    either Valid (free book k) (with_valid book k (stored_of r) v (put_below r k e) (stored_long r k e) (inr stands)) v
+by book r (Empty k) e v = with_valid book k nothing v (emptied_below r k e) (length-replicate {A = ℕ} record_bytes 0) (inl refl)
 
 pub kept : (book r : List ℕ) → Valid book → Valid (book_after book r)
 unfolding book_after

@@ -21,16 +21,16 @@ use Rattle.book.specs.Valid.{Stands, Valid}
 use Rattle.book.proofs.Free.{first_byte, empty_free}
 
 -- the row that is found has the letters
-found-by :
+found_by :
     (w : ℕ) (row : Row) (rows : List Row) → (row_in w rows < length rows → (get_or rows (row_in w rows) no_row).letters ≡ w) →
     (b : Bool) → eqb row.letters w ≡ b → cond b 0 (suc (row_in w rows)) < suc (length rows) → (get_or (row ∷ rows) (cond b 0 (suc (row_in w rows))) no_row).letters ≡ w
-found-by w row rows later true e h = eqb-true _ _ e
-found-by w row rows later false e h = later (omega arith)
+found_by w row rows later true e h = eqb-true _ _ e
+found_by w row rows later false e h = later (omega arith)
 
 found : (w : ℕ) (rows : List Row) → row_in w rows < length rows → (get_or rows (row_in w rows) no_row).letters ≡ w
 unfolding row_in
 found w [] h = let z : ⊥ = omega arith in absurd z
-found w (row ∷ rows) h = found-by w row rows (found w rows) (eqb row.letters w) refl h
+found w (row ∷ rows) h = found_by w row rows (found w rows) (eqb row.letters w) refl h
 
 -- one test over the whole table: the first letter is not 0
 lettered : ℕ → Bool

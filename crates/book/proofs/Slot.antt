@@ -20,11 +20,11 @@ out_head : (i n j : ℕ) → Out i (suc n) j → (i ≡ j → ⊥) × Out (suc i
 unfolding Out
 out_head i n j o = ⊎_elim (λ h. ((λ e. omega arith), inl (omega arith))) (λ h. ((λ e. omega arith), inr (omega arith))) o
 
-get_d_out : (l : List ℕ) (i : ℕ) (vs : List ℕ) (j : ℕ) → Out i (length vs) j → get_or (sets l i vs) j 0 ≡ get_or l j 0
-get_d_out l i [] j o = refl
-get_d_out l i (v ∷ vs) j o =
+get_or_out : (l : List ℕ) (i : ℕ) (vs : List ℕ) (j : ℕ) → Out i (length vs) j → get_or (sets l i vs) j 0 ≡ get_or l j 0
+get_or_out l i [] j o = refl
+get_or_out l i (v ∷ vs) j o =
     let p = out_head i (length vs) j o in
-    get_d_out (set l i v) (suc i) vs j p.1 ∙ get_or-set_other l i j v 0 (λ e. p.0 (sym e))
+    get_or_out (set l i v) (suc i) vs j p.1 ∙ get_or-set_other l i j v 0 (λ e. p.0 (sym e))
 
 -- the bytes of a slot, and how many
 pub slot_length : (book : List ℕ) (j : ℕ) → length book ≡ book_bytes → j < slots → length (record_at book j) ≡ record_bytes
@@ -36,10 +36,10 @@ unfolding record_at
 slot_byte book j o h = get_or-take record_bytes (drop (j * record_bytes) book) o 0 h ∙ get_or-drop (j * record_bytes) book o 0
 
 -- slots are equal by their bytes
-pub slot-ext :
+pub slot_ext :
     (a b : List ℕ) (j : ℕ) → length a ≡ book_bytes → length b ≡ book_bytes → j < slots →
     ((o : ℕ) → o < record_bytes → get_or a (j * record_bytes + o) 0 ≡ get_or b (j * record_bytes + o) 0) → record_at a j ≡ record_at b j
-slot-ext a b j ea eb h f =
+slot_ext a b j ea eb h f =
     ext_get_or 0 (record_at a j) (record_at b j) (slot_length a j ea h ∙ sym (slot_length b j eb h))
     (λ i l. let li : i < record_bytes = omega (arith, slot_length a j ea h) in slot_byte a j i li ∙ f i li ∙ sym (slot_byte b j i li))
 
@@ -63,24 +63,17 @@ module _ (book : List ℕ) (k : ℕ) (bytes : List ℕ) (size : length book ≡ 
   other_byte j o ne h =
       let p : Out (k * record_bytes) (length bytes) (j * record_bytes + o) =
       ⊎_elim (λ lt. inl (omega arith)) (λ ge. inr (let g : k ≡ j → ⊥ = (λ e. ne (sym e)) in omega arith)) (lt_or_ge j k) in
-      ap (λ (l : List ℕ). get_or l (j * record_bytes + o) 0) as_sets ∙ get_d_out book (k * record_bytes) bytes (j * record_bytes + o) p
+      ap (λ (l : List ℕ). get_or l (j * record_bytes + o) 0) as_sets ∙ get_or_out book (k * record_bytes) bytes (j * record_bytes + o) p
 
   -- every other slot is as it was
   pub slot_other : (j : ℕ) → j < slots → (j ≡ k → ⊥) → record_at (book_with book k bytes) j ≡ record_at book j
-  slot_other j h ne = slot-ext (book_with book k bytes) book j with_length size h (λ o ho. other_byte j o ne ho)
-
--- bytes copied over no more than as many
-pub copied_over : (copied old : List ℕ) → length old ≤ length copied → take (length copied) copied ++ drop (length copied) old ≡ copied
-copied_over copied old h = rw (drop_of_length-le {A = ℕ} old {i = length copied} h) (append-nil (take (length copied) copied) ∙ take-length copied)
+  slot_other j h ne = slot_ext (book_with book k bytes) book j with_length size h (λ o ho. other_byte j o ne ho)
 
 -- a copy of sixteen bytes over the part of the book that is slot k
 pub written :
-    (book bytes : List ℕ) (k : ℕ) (part : List ℕ) → length bytes ≡ record_bytes →
-    part ≡ take (length bytes) bytes ++ drop (length bytes) (take (k * record_bytes + record_bytes - k * record_bytes) (drop (k * record_bytes) book)) →
+    (book bytes : List ℕ) (k : ℕ) (part : List ℕ) → length bytes ≡ record_bytes → part ≡ bytes →
     put_mid (k * record_bytes) (k * record_bytes + record_bytes - k * record_bytes) book part ≡ book_with book k bytes
 unfolding book_with
-written book bytes k part l e =
+written book bytes k part l whole =
     let s : k * record_bytes + record_bytes - k * record_bytes ≡ record_bytes = omega arith in
-    let old = take (k * record_bytes + record_bytes - k * record_bytes) (drop (k * record_bytes) book) in
-    let whole : part ≡ bytes = e ∙ copied_over bytes old (simp length-take (omega arith)) in
     rw (whole, s) (rw drop-drop refl)

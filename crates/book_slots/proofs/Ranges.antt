@@ -22,7 +22,7 @@ use Rattle.book_slots.specs.declared.Seen.{Seen}
 use Rattle.book_slots.specs.declared.Seen.TheVariants.{Nothing, Value}
 use Rattle.book_slots.specs.declared.Warmth.{Warmth}
 use Rattle.book_slots.specs.declared.Warmth.TheVariants.{Unknown, Tenths}
-use Rattle.book_slots.proofs.Within.{filled-ranged, empty_zero}
+use Rattle.book_slots.proofs.Within.{filled_ranged, empty_zero}
 
 -- the lowest and the highest value of entry n of a row, where it is an unsigned field
 abbrev pub lowest_of : Entry → ℕ
@@ -76,21 +76,21 @@ small true f g = (f refl).1
 small false f g = let z = g refl in omega arith
 
 module _ (book : List ℕ) (v : Valid book) (row : ℕ) (h : row < length table) (bytes : List ℕ) (l : Low (highest_of row) bytes) (n : ℕ) (m : n < length (entries_of row)) where
-  ranged-by :
+  ranged_by :
       (e : Entry) → entry_at row n ≡ e → T (unsigned e) → filled_of book row bytes ≡ true →
       (lowest_of e ≤ number_of book row bytes n) × (number_of book row bytes n ≤ top_of e)
-  ranged-by (zeros k) e t f = absurd t
-  ranged-by (field wide (from least most)) e t f = within least most (record_at book (slot_of row bytes)) (number_of book row bytes n) (filled-ranged book v row h bytes l n m wide (from least most) e f)
-  ranged-by (field wide (unless by top)) e t f = (omega arith, narrow (record_at book (slot_of row bytes)) by top (number_of book row bytes n) (filled-ranged book v row h bytes l n m wide (unless by top) e f))
-  ranged-by (field wide (signed below above)) e t f = absurd t
+  ranged_by (zeros k) e t f = absurd t
+  ranged_by (field wide (from least most)) e t f = within least most (record_at book (slot_of row bytes)) (number_of book row bytes n) (filled_ranged book v row h bytes l n m wide (from least most) e f)
+  ranged_by (field wide (unless by top)) e t f = (omega arith, narrow (record_at book (slot_of row bytes)) by top (number_of book row bytes n) (filled_ranged book v row h bytes l n m wide (unless by top) e f))
+  ranged_by (field wide (signed below above)) e t f = absurd t
 
   -- what is seen is nothing or in the table's range, and the number read is at most the table's highest, filled or not
   pub seen_in : T (unsigned (entry_at row n)) → In (low row n) (high row n) (seen_of book row bytes n)
   unfolding seen_at
-  seen_in t = either (filled_of book row bytes) (ranged-by (entry_at row n) refl t)
+  seen_in t = either (filled_of book row bytes) (ranged_by (entry_at row n) refl t)
 
   pub most : T (unsigned (entry_at row n)) → number_of book row bytes n ≤ high row n
-  most t = small (filled_of book row bytes) (ranged-by (entry_at row n) refl t) (empty_zero book v row h bytes l n m)
+  most t = small (filled_of book row bytes) (ranged_by (entry_at row n) refl t) (empty_zero book v row h bytes l n m)
 
 -- unknown, or from minus a number to another
 abbrev pub Mild : ℕ → ℕ → Warmth → Type 0
@@ -126,4 +126,4 @@ module _ (book : List ℕ) (v : Valid book) where
   unfolding in_range
   temperature_in month h =
       mild (filled_of book tp (month ∷ [])) (signed_of (number_of book tp (month ∷ []) 2)) 500 600
-      (λ f. both _ _ (filled-ranged book v tp (lit≤ tt) (month ∷ []) (omega arith, tt) 2 (lit≤ tt) 2 (signed 500 600) refl f))
+      (λ f. both _ _ (filled_ranged book v tp (lit≤ tt) (month ∷ []) (omega arith, tt) 2 (lit≤ tt) 2 (signed 500 600) refl f))

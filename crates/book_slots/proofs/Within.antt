@@ -5,7 +5,7 @@ use mathlib.Core.List.{List, [], ◌∷◌}
 use Prim.Native.Nat.{ℕ, zero, suc, ◌+◌, ◌*◌, ◌≤◌, ◌<◌}
 use native.Mathlib.Nat.{add-zero, add_assoc, le_of_suc-le-suc, not-suc-le-zero}
 use native.Mathlib.Omega.{arith}
-use borrow.Author.Tests.{not_true, not-false}
+use borrow.Author.Tests.{not-true, not-false}
 use lib.Dec.{leb, leb→le}
 use lib.ListN.{length, get_or, take, drop, get_or-replicate}
 use Rattle.laws.proofs.Table.{each, at}
@@ -80,7 +80,7 @@ module _ (book : List ℕ) (v : Valid book) (row : ℕ) (h : row < length table)
   -- what is filled was judged by this row
   its_fields : filled_of book row bytes ≡ true → Ranged after_mark (entries_of row) (record_at book (slot_of row bytes))
   its_fields f =
-      let e = filled_held book (slot_of row bytes) v below (not_true (free book (slot_of row bytes)) f) in
+      let e = filled_held book (slot_of row bytes) v below (not-true (free book (slot_of row bytes)) f) in
       let t = taken_itself (record_at book (slot_of row bytes)) (slot_of row bytes) e.judged_so e.stored_so in
       let same = one_row (row_of (record_at book (slot_of row bytes))) row (slot_of row bytes) (there (record_at book (slot_of row bytes)) (slot_of row bytes) t) (among row h bytes low) in
       subst (λ (m : ℕ). Ranged after_mark (entries_of m) (record_at book (slot_of row bytes))) same (fields (record_at book (slot_of row bytes)) (slot_of row bytes) t)
@@ -89,10 +89,10 @@ module _ (book : List ℕ) (v : Valid book) (row : ℕ) (h : row < length table)
     pub as_read : number_at (record_at book (slot_of row bytes)) (place_of row n) (bytes_of row n) ≡ number_of book row bytes n
     as_read = number_slot book (slot_of row bytes) (place_of row n) (bytes_of row n) (inside_record row h n l)
 
-    pub filled-ranged :
+    pub filled_ranged :
         (wide : ℕ) (range : Range) → get_or (entries_of row) n (zeros 0) ≡ field wide range → filled_of book row bytes ≡ true →
         in_range range (record_at book (slot_of row bytes)) (number_of book row bytes n) ≡ true
-    filled-ranged wide range e f =
+    filled_ranged wide range e f =
         subst (λ (x : ℕ). in_range range (record_at book (slot_of row bytes)) x ≡ true) as_read
         (nth after_mark (entries_of row) (record_at book (slot_of row bytes)) n wide range (its_fields f) l e)
 

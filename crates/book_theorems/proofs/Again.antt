@@ -115,29 +115,29 @@ unfolding book_each
 stays_each book v [] k h full = full
 stays_each book v (s ∷ ss) k h full = stays_each (book_after book s) (kept book s v) ss k h (stays book s v k h full)
 
-pub slot-again :
+pub slot_again :
     (book : List ℕ) → Valid book → (r s : List ℕ) → answer_of book r ≡ Taken → judged s ≡ judged r → (ss : List (List ℕ)) →
     answer_of (book_each (book_after book r) ss) s ≡ Refused (refusal already_filled 0)
 unfolding answer_of answer_by
-slot-again book v r s taken same ss =
+slot_again book v r s taken same ss =
     let own = taken_fills book r v.size taken in
     let full = stays_each (book_after book r) (kept book r v) ss own.slot own.there.below (fills book r v own.slot own.judged_so) in
     ap (answer_by (book_each (book_after book r) ss)) (same ∙ own.judged_so) ∙ ap (λ (b : Bool). cond b Taken (Refused (refusal already_filled 0))) full
 
 -- the key tells the slot: so an LN after an LD of its line, or an LD after an LN
-pub key-again :
+pub key_again :
     (book : List ℕ) → Valid book → (r s : List ℕ) → answer_of book r ≡ Taken → (k : ℕ) → judged s ≡ Put k →
     key_row s ≡ key_row r → key_of (key_row s) s ≡ key_of (key_row r) r → (ss : List (List ℕ)) →
     answer_of (book_each (book_after book r) ss) s ≡ Refused (refusal already_filled 0)
-key-again book v r s taken k e row key ss =
+key_again book v r s taken k e row key ss =
     let own = taken_fills book r v.size taken in
     let one : k ≡ own.slot =
     sym (key_slot s k e) ∙ ap (slot_of (key_row s)) key ∙ ap (λ (n : ℕ). slot_of n (key_of (key_row r) r)) row ∙ key_slot r own.slot own.judged_so in
-    slot-again book v r s taken (e ∙ ap Put one ∙ sym own.judged_so) ss
+    slot_again book v r s taken (e ∙ ap Put one ∙ sym own.judged_so) ss
 
-pub taken-again :
+pub taken_again :
     (book : List ℕ) → Valid book → (r : List ℕ) → answer_of book r ≡ Taken → (ss : List (List ℕ)) → answer_of (book_each (book_after book r) ss) r ≡ Refused (refusal already_filled 0)
-taken-again book v r taken ss = slot-again book v r r taken refl ss
+taken_again book v r taken ss = slot_again book v r r taken refl ss
 
 -- so any of them, in any order, any number of times, leave the same book
 again : (book : List ℕ) (ss : List (List ℕ)) → ((s : List ℕ) → Memᴰ s ss → book_after book s ≡ book) → book_each book ss ≡ book

@@ -27,7 +27,7 @@ use Rattle.book.proofs.Free.{empty_free}
 use Rattle.book.proofs.Kept.{empty_slot}
 use Rattle.book_slots.specs.Field.{place_of, bytes_of, seen_of}
 use Rattle.book_slots.specs.declared.Seen.TheVariants.{Value}
-use Rattle.book_theorems.proofs.Read.{read-stored}
+use Rattle.book_theorems.proofs.Read.{read_stored}
 
 -- posted to a book, a record answers and leaves it as another does
 pub record Alike (book r s : List ℕ) : Type 0 where
@@ -88,7 +88,7 @@ module _ (book r : List ℕ) (size : length book ≡ book_bytes) (t : answer_of 
   field : (n : ℕ) → n < length (entries_of ln) → seen_of (book_after book r) ln (get_or r 2 0 ∷ []) n ≡ Value (number_at (stands_for r) (place_of ln n) (bytes_of ln n))
   unfolding key_of key_in
   field n h =
-      subst (λ (m : ℕ). n < length (entries_of m) → seen_of (book_after book r) m (key_of m r) n ≡ Value (number_at (stored_of r) (place_of m n) (bytes_of m n))) (defaults_row r d) (read-stored book r size t n) h
+      subst (λ (m : ℕ). n < length (entries_of m) → seen_of (book_after book r) m (key_of m r) n ≡ Value (number_at (stored_of r) (place_of m n) (bytes_of m n))) (defaults_row r d) (read_stored book r size t n) h
       ∙ ap (λ (bytes : List ℕ). Value (number_at bytes (place_of ln n) (bytes_of ln n))) (stored_line r d)
 
   pub read_solids : seen_of (book_after book r) ln (get_or r 2 0 ∷ []) solids_at ≡ Value (solids_of (get_or r livestock_at 0) (get_or r state_at 0))

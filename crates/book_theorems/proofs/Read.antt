@@ -53,10 +53,10 @@ module _ (book r : List ℕ) (size : length book ≡ book_bytes) (t : answer_of 
   its = key_slot r own.slot own.judged_so
 
   -- each field of a record that was taken is read, under its key, as it was stored
-  pub read-stored :
+  pub read_stored :
       (n : ℕ) → n < length (entries_of (key_row r)) →
       seen_of (book_after book r) (key_row r) (key_of (key_row r) r) n ≡ Value (number_at (stored_of r) (place_of (key_row r) n) (bytes_of (key_row r) n))
-  read-stored n h =
+  read_stored n h =
       let row = key_below r own.slot own.judged_so in
       subst
       (λ (k : ℕ). seen_at (book_after book r) k (place_of (key_row r) n) (bytes_of (key_row r) n) ≡ Value (number_at (stored_of r) (place_of (key_row r) n) (bytes_of (key_row r) n)))
@@ -64,10 +64,10 @@ module _ (book r : List ℕ) (size : length book ≡ book_bytes) (t : answer_of 
       (holds_read (book_after book r) (stored_of r) own.slot own.slot (place_of (key_row r) n) (bytes_of (key_row r) n) (inside_record (key_row r) row n h) (stored_judged r own.slot own.judged_so) own.there.holds)
 
   -- and every other slot is read as before
-  pub read-others :
+  pub read_others :
       (j : ℕ) → j < slots → (j ≡ slot_of (key_row r) (key_of (key_row r) r) → ⊥) → (at wide : ℕ) → at + wide ≤ record_bytes →
       seen_at (book_after book r) j at wide ≡ seen_at book j at wide
-  read-others j h ne at wide l = read_same (book_after book r) book j at wide l (own.there.others j h (λ e. ne (e ∙ sym its)))
+  read_others j h ne at wide l = read_same (book_after book r) book j at wide l (own.there.others j h (λ e. ne (e ∙ sym its)))
 
   -- a record of the table is read as it was posted
   module _ (row : ℕ) (h : row < length table) (e : row_of r ≡ row) where
@@ -79,7 +79,7 @@ module _ (book r : List ℕ) (size : length book ≡ book_bytes) (t : answer_of 
         subst
         (λ (m : ℕ). n < length (entries_of m) → seen_of (book_after book r) m (key_of m r) n ≡ Value (number_at r (place_of m n) (bytes_of m n)))
         own_key
-        (λ l. read-stored n l ∙ ap (λ (bytes : List ℕ). Value (number_at bytes (place_of (key_row r) n) (bytes_of (key_row r) n))) (row_stored r (subst (λ (n : ℕ). n < length table) (sym e) h)))
+        (λ l. read_stored n l ∙ ap (λ (bytes : List ℕ). Value (number_at bytes (place_of (key_row r) n) (bytes_of (key_row r) n))) (row_stored r (subst (λ (n : ℕ). n < length table) (sym e) h)))
         l
 
     filled_there : filled_of (book_after book r) row (key_of row r) ≡ true

@@ -32,11 +32,11 @@ number_listed flows contents states efficiency refusal e =
     (either Listed (not (are_hours (length flows) (length contents) (length states))) (Memᴰ.head refl)
     (hours_listed CubicMetres efficiency states (hour_at flows contents states)))
 
-pub feet-number-listed :
+pub feet_number_listed :
     (flows contents temperatures pressures : List Float) (states : List ℕ) (efficiency : ℕ) (refusal : Refusal) →
     feet_month_of flows contents temperatures pressures states efficiency ≡ Refused refusal → Memᴰ refusal.number month_order
 unfolding feet_month_of
-feet-number-listed flows contents temperatures pressures states efficiency refusal e =
+feet_number_listed flows contents temperatures pressures states efficiency refusal e =
     subst Listed e
     (either Listed (not (are_feet_hours (length flows) (length contents) (length temperatures) (length pressures) (length states))) (Memᴰ.head refl)
     (hours_listed CubicFeet efficiency states (feetHourAt flows contents temperatures pressures states)))

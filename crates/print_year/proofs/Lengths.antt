@@ -11,17 +11,17 @@ pub year_length : (year : ℕ) → length (heading_text year) ≡ 6 + length (de
 unfolding heading_text
 year_length year = simp length-append (omega arith)
 
-pub solids-length :
+pub solids_length :
     (f : Figures) → length (solids_text f)
     ≡ 37 + length (decimal f.entered.0) + length (decimal f.degraded.0) + length (decimal f.removed.0) + length (decimal f.carried.0)
 unfolding solids_text
-solids-length f = simp length-append (omega arith)
+solids_length f = simp length-append (omega arith)
 
-pub grams-length :
+pub grams_length :
     (f : Figures) → length (grams_text f)
     ≡ 28 + length (decimal f.baseline.0) + length (decimal f.project_methane.0) + length (decimal f.metered.0)
 unfolding grams_text
-grams-length f = simp length-append (omega arith)
+grams_length f = simp length-append (omega arith)
 
 pub tonnes_length : (f : Figures) → length (tonnes_text f) ≡ 15 + length (signed f.net) + length (decimal f.credited)
 unfolding tonnes_text

@@ -10,7 +10,7 @@ use Rattle.print_refusal.specs.Text.{refusal_text}
 use Rattle.print_page.proofs.Lengths.{wide, wide_signed}
 use Rattle.print_refusal.proofs.Lengths.{refusal_most}
 use Rattle.print_year.specs.Text.{year_text}
-use Rattle.print_year.proofs.Lengths.{year_length, solids-length, grams-length, tonnes_length, lines_length}
+use Rattle.print_year.proofs.Lengths.{year_length, solids_length, grams_length, tonnes_length, lines_length}
 use Rattle.print_years.specs.Page.{year_bytes}
 
 pub refusal_fits : (refusal : Refusal) → refusal.number < 2 ^ 8 → refusal.place < 2 ^ 64 → length (refusal_text refusal) ≤ year_bytes
@@ -35,12 +35,12 @@ year_fits year f y h =
       lines_length year f,
       year_length year,
       wide year y,
-      solids-length f,
+      solids_length f,
       wide f.entered.0 h.entered,
       wide f.degraded.0 h.degraded,
       wide f.removed.0 h.removed,
       wide f.carried.0 h.carried,
-      grams-length f,
+      grams_length f,
       wide f.baseline.0 h.baseline,
       wide f.project_methane.0 h.project_methane,
       wide f.metered.0 h.metered,

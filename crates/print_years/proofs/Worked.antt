@@ -27,8 +27,8 @@ worked =
     }
 
 -- year 1 is stated and year 2 refused, so that no later year is printed, whatever it is
-pub printed-whole :
+pub printed_whole :
     (later : List ℕ) → answer_text 1 (Stated worked) (answer_text 2 (Refused (refusal lacking 13)) later)
     ≡ word "year 1\nentered 175200000 degraded 175200000 removed 0 carried 0\nbaseline 600445440 project 12000000 metered 504000000\nnet 498 credited 498\nrefused 8 at 13\n"
 unfolding answer_text year_text heading_text solids_text grams_text tonnes_text refusal_text decimal signed last_digits
-printed-whole later = refl
+printed_whole later = refl

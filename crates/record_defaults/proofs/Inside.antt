@@ -81,10 +81,10 @@ state_test n column = in_range (line_range solids_at) [] (get_or (get_or states 
 states_test : ℕ → Bool
 states_test n = each (state_test n) columns
 
-pub state-inside :
+pub state_inside :
     (state column : ℕ) → 1 ≤ state → state ≤ state_count → column < columns → (r : List ℕ) → in_range (line_range solids_at) r (by_state state column) ≡ true
 unfolding each states_test state_test in_range by_state states
-state-inside state column low high l r =
+state_inside state column low high l r =
     let row = at states_test state_count tt (state - 1) (omega (arith, low, high)) in
     shown (state_test (state - 1) column) (at (state_test (state - 1)) columns row column l)
 
@@ -116,7 +116,7 @@ module _ (livestock state : ℕ) (h : Livestock livestock) (s : State livestock 
   by_entry (Own own) e = shown (in_range (line_range solids_at) [] own) (subst (λ (entry : SolidsEntry). T (entry_test entry)) e (entry_passes livestock h))
   by_entry (Column column) e =
       let is = asked livestock state s column e in
-      state-inside state column is.0 is.1 (column_below livestock h column e) r
+      state_inside state column is.0 is.1 (column_below livestock h column e) r
 
   pub solids_inside : in_range (line_range solids_at) r (solids_of livestock state) ≡ true
   unfolding solids_of

@@ -55,21 +55,21 @@ silent = replicate hours nan
 abbrev pub out : List ℕ
 out = replicate hours 7
 
-pub month-weighed :
+pub month_weighed :
     month_of silent silent out whole_efficiency
     ≡ Destroyed (methane (metered_of CubicMetres whole_efficiency out (hour_at silent silent out)))
 unfolding month_of hours_of hour_at recorded_of reading_of first_from
-month-weighed = refl
+month_weighed = refl
 
 -- in cubic feet 8 is added where temperature or pressure is missing
 abbrev pub silent_out : List ℕ
 silent_out = replicate hours 15
 
-pub feet-month-weighed :
+pub feet_month_weighed :
     feet_month_of silent silent silent silent silent_out whole_efficiency
     ≡ Destroyed (methane (metered_of CubicFeet whole_efficiency silent_out (feetHourAt silent silent silent silent silent_out)))
 unfolding feet_month_of hours_of feetHourAt Feet.recorded_of flow_in content_in first_from
-feet-month-weighed = refl
+feet_month_weighed = refl
 
 pub year_stated : (book : List ℕ) (year : ℕ) → Answered book year → Year.answer_of book year ≡ Stated (figures_of book year)
 year_stated book year a =

@@ -25,10 +25,10 @@ post_tells κ a x s told = told
 pub month_tells : Tells Month.Learnt (λ κ a x s. x ≡ month_of a.0.now a.1.0.now a.1.1.0.now a.1.1.1.0)
 month_tells κ a x s told = told
 
-pub feet-month-tells :
+pub feet_month_tells :
     Tells FeetMonth.Learnt
     (λ κ a x s. x ≡ feet_month_of a.0.now a.1.0.now a.1.1.0.now a.1.1.1.0.now a.1.1.1.1.0.now a.1.1.1.1.1.0)
-feet-month-tells κ a x s told = told
+feet_month_tells κ a x s told = told
 
 pub year_tells : Tells YearReads.Learnt (λ κ a x s. x ≡ Year.answer_of a.0.now a.1.0)
 year_tells κ a x s told = told
@@ -36,7 +36,7 @@ year_tells κ a x s told = told
 pub net_tells : Tells Net.Learnt (λ κ a x s. x ≡ net_of a.0)
 net_tells κ a x s told = told
 
-pub run-tells :
+pub run_tells :
     Tells Run.Learnt
     (λ κ a x s. x ≡ run_from a.0 (months_of a.1.0.now a.1.1.0.now a.1.1.1.0.now) (length a.1.0.now))
-run-tells κ a x s told = told
+run_tells κ a x s told = told

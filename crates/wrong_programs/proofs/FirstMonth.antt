@@ -49,41 +49,41 @@ one_fits =
     }
 
 -- 1 and then 2 grams enter, or 1 and 1: a program that gives both the same answer breaks the promise
-entries-differ :
+entries_differ :
     (run : Program) → KeepsRun run →
     run empty_of (1 ∷ 2 ∷ []) (0 ∷ 0 ∷ []) (false ∷ false ∷ []) ≡ run empty_of (1 ∷ 1 ∷ []) (0 ∷ 0 ∷ []) (false ∷ false ∷ []) → ⊥
 unfolding outcome_of with_of run_from
-entries-differ run keeps same =
+entries_differ run keeps same =
     let unlike = keeps empty_of (1 ∷ 2 ∷ []) (0 ∷ 0 ∷ []) (false ∷ false ∷ []) (two_fit 1 2 0 (omega arith) (omega arith) (omega arith)) in
     let like = keeps empty_of (1 ∷ 1 ∷ []) (0 ∷ 0 ∷ []) (false ∷ false ∷ []) (two_fit 1 1 0 (omega arith) (omega arith) (omega arith)) in
     let entered : ◌≡◌ {A = ℕ} 3 2 = ap (λ (t : Totals). t.entered.0) (sym unlike ∙ same ∙ like) in
     omega arith
 
 -- each month is given all that the first one is: what enters, its factor and its drain mark
-pub repeats-first-month :
+pub repeats_first_month :
     (run : Program) →
     ((from : Standing) (first factor : ℕ) (drain : Bool) (later factors : List ℕ) (drained : List Bool) →
     run from (first ∷ later) (factor ∷ factors) (drain ∷ drained) ≡
     run from (replicate (suc (length later)) first) (replicate (suc (length factors)) factor) (replicate (suc (length drained)) drain)) →
     KeepsRun run → ⊥
-repeats-first-month run repeats keeps = entries-differ run keeps (repeats empty_of 1 0 false (2 ∷ []) (0 ∷ []) (false ∷ []))
+repeats_first_month run repeats keeps = entries_differ run keeps (repeats empty_of 1 0 false (2 ∷ []) (0 ∷ []) (false ∷ []))
 
 -- each month enters what the first one does, and has its own factor and drain mark
-pub repeats-first-entry :
+pub repeats_first_entry :
     (run : Program) →
     ((from : Standing) (first : ℕ) (later factors : List ℕ) (drained : List Bool) →
     run from (first ∷ later) factors drained ≡ run from (replicate (suc (length later)) first) factors drained) → KeepsRun run → ⊥
-repeats-first-entry run repeats keeps = entries-differ run keeps (repeats empty_of 1 (2 ∷ []) (0 ∷ 0 ∷ []) (false ∷ false ∷ []))
+repeats_first_entry run repeats keeps = entries_differ run keeps (repeats empty_of 1 (2 ∷ []) (0 ∷ 0 ∷ []) (false ∷ false ∷ []))
 
 -- n months degrade n times what the first one does: of two like months, the second starts from what the first left standing, and degrades 3 grams
 -- where the first degrades 2
-pub repeats-first-figures :
+pub repeats_first_figures :
     (run : Program) →
     ((from : Standing) (first factor : ℕ) (drain : Bool) (later factors : List ℕ) (drained : List Bool) →
     (run from (first ∷ later) (factor ∷ factors) (drain ∷ drained)).degraded.0 ≡
     suc (length later) * (run from (first ∷ []) (factor ∷ []) (drain ∷ [])).degraded.0) → KeepsRun run → ⊥
 unfolding outcome_of with_of run_from
-repeats-first-figures run repeats keeps =
+repeats_first_figures run repeats keeps =
     let two = keeps empty_of (4 ∷ 4 ∷ []) (500000 ∷ 500000 ∷ []) (false ∷ false ∷ []) (two_fit 4 4 500000 (omega arith) (omega arith) (omega arith)) in
     let one = keeps empty_of (4 ∷ []) (500000 ∷ []) (false ∷ []) one_fits in
     let degraded : ◌≡◌ {A = ℕ} 5 4 =

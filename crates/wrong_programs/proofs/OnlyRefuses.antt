@@ -17,7 +17,7 @@ use Rattle.year.specs.declared.Answer as Answer
 use Rattle.year.specs.declared.Answer.{Answer}
 use Rattle.wrong_programs.proofs.Promise.{KeepsAnswers, KeepsMeter, KeepsFeetMeter, KeepsYears, Answered}
 use Rattle.wrong_programs.proofs.Records.{year_record}
-use Rattle.wrong_programs.proofs.Answers.{year_taken, silent, out, month-weighed, silent_out, feet-month-weighed, year_stated}
+use Rattle.wrong_programs.proofs.Answers.{year_taken, silent, out, month_weighed, silent_out, feet_month_weighed, year_stated}
 use Rattle.wrong_programs.proofs.WorkedBook.{made}
 use Rattle.wrong_programs.proofs.WorkedYear.{answered}
 
@@ -40,18 +40,18 @@ refuses_records answer refuses keeps =
     subst NotTaken (keeps empty_book year_record empty_valid ∙ year_taken) (refuses empty_book year_record empty_valid)
 
 -- every month of a meter is refused, of one in cubic metres or of one in cubic feet
-pub refuses-months :
+pub refuses_months :
     (month : List Float → List Float → List ℕ → ℕ → MonthAnswer) →
     ((flows contents : List Float) (states : List ℕ) (efficiency : ℕ) → NotWeighed (month flows contents states efficiency)) → KeepsMeter month → ⊥
-refuses-months month refuses keeps =
-    subst NotWeighed (keeps silent silent out whole_efficiency ∙ month-weighed) (refuses silent silent out whole_efficiency)
+refuses_months month refuses keeps =
+    subst NotWeighed (keeps silent silent out whole_efficiency ∙ month_weighed) (refuses silent silent out whole_efficiency)
 
-pub refuses-feet-months :
+pub refuses_feet_months :
     (month : List Float → List Float → List Float → List Float → List ℕ → ℕ → MonthAnswer) →
     ((flows contents temperatures pressures : List Float) (states : List ℕ) (efficiency : ℕ) → NotWeighed (month flows contents temperatures pressures states efficiency)) →
     KeepsFeetMeter month → ⊥
-refuses-feet-months month refuses keeps =
-    subst NotWeighed (keeps silent silent silent silent silent_out whole_efficiency ∙ feet-month-weighed) (refuses silent silent silent silent silent_out whole_efficiency)
+refuses_feet_months month refuses keeps =
+    subst NotWeighed (keeps silent silent silent silent silent_out whole_efficiency ∙ feet_month_weighed) (refuses silent silent silent silent silent_out whole_efficiency)
 
 -- a year is refused that 01 gives no refusal; and every year is: there is such a year, the first of 01's worked example
 pub refuses_a_year : (answer : List ℕ → ℕ → Answer) (book : List ℕ) (year : ℕ) → Answered book year → NotStated (answer book year) → KeepsYears answer → ⊥

@@ -17,7 +17,7 @@ use Rattle.book.proofs.Kept.{empty_slot, empty_valid}
 use Rattle.book_slots.specs.Field.{place_of, bytes_of, seen_of}
 use Rattle.book_slots.specs.declared.Seen.TheVariants.{Value}
 use Rattle.book_theorems.proofs.Own.{taken_fills}
-use Rattle.book_theorems.proofs.Read.{read-stored}
+use Rattle.book_theorems.proofs.Read.{read_stored}
 use Rattle.wrong_programs.proofs.Promise.{KeepsBooks}
 use Rattle.wrong_programs.proofs.Records.{year_record}
 use Rattle.wrong_programs.proofs.Answers.{year_taken}
@@ -40,8 +40,8 @@ module _ (after : List ℕ → List ℕ → List ℕ) (book r : List ℕ) (v : V
       other (ap (λ (b : List ℕ). record_at b (slot_of (key_row r) (key_of (key_row r) r))) (keeps book r v) ∙ ap (record_at _) (key_slot r s.slot s.judged_so) ∙ s.there.holds)
 
   -- a field of a record taken is read, under its key, as another value than was posted, or than a defaults line stands for
-  pub keeps-other-values :
+  pub keeps_other_values :
       (n : ℕ) → n < length (entries_of (key_row r)) →
       (seen_of (after book r) (key_row r) (key_of (key_row r) r) n ≡ Value (number_at (stored_of r) (place_of (key_row r) n) (bytes_of (key_row r) n)) → ⊥) → KeepsBooks after → ⊥
-  keeps-other-values n h other keeps =
-      other (ap (λ (b : List ℕ). seen_of b (key_row r) (key_of (key_row r) r) n) (keeps book r v) ∙ read-stored book r v.size t n h)
+  keeps_other_values n h other keeps =
+      other (ap (λ (b : List ℕ). seen_of b (key_row r) (key_of (key_row r) r) n) (keeps book r v) ∙ read_stored book r v.size t n h)

@@ -32,17 +32,17 @@ Same answer tonnes = (book : List ℕ) (year : ℕ) (figures : Figures) → Vali
 
 -- two years that 01 gives no refusal, and whose tonnes differ, show it; and there are two: the first of 01's worked example has 498, and where device 1
 -- destroyed nothing it has -6
-pub same-as-another :
+pub same_as_another :
     (answer : List ℕ → ℕ → Answer) (tonnes : ℤ) → Same answer tonnes → (a b : List ℕ) (y z : ℕ) → Answered a y → Answered b z →
     ((figures_of a y).net ≡ (figures_of b z).net → ⊥) → KeepsYears answer → ⊥
-same-as-another answer tonnes same a b y z p q differ keeps =
+same_as_another answer tonnes same a b y z p q differ keeps =
     differ
     (same a y (figures_of a y) p.valid (keeps a y p.valid ∙ year_stated a y p)
     ∙ sym (same b z (figures_of b z) q.valid (keeps b z q.valid ∙ year_stated b z q)))
 
 pub same_years : (answer : List ℕ → ℕ → Answer) (tonnes : ℤ) → Same answer tonnes → KeepsYears answer → ⊥
 same_years answer tonnes same =
-    same-as-another answer tonnes same (made true) (made false) first_year first_year (answered true) (answered false)
+    same_as_another answer tonnes same (made true) (made false) first_year first_year (answered true) (answered false)
     (λ e.
     let n : pos 498 ≡ neg_ℤ (pos 6) = sym (ap (λ (f : Figures). f.net) worked_figures) ∙ e ∙ other_tonnes in
     let z : ◌≡◌ {A = ℕ} 0 1 = cc in

@@ -76,10 +76,10 @@ module _ (destroyed : Bool) where
       ∙ ap (λ (empty : List ℕ). held_after k empty (records destroyed)) (empty_slot k below)
       ∙ alike_same held (r destroyed) (right (ltb k slots) (alike held (r destroyed)) passed)
 
-  stands-each :
+  stands_each :
       (n : ℕ) (slot : ℕ → ℕ) (r : Bool → ℕ → List ℕ) → T (each (λ i. both (holds (slot (suc i)) (λ b. r b (suc i)))) n) →
       Each n (λ i. record_at (made destroyed) (slot i) ≡ r destroyed i)
-  stands-each n slot r t i low high =
+  stands_each n slot r t i low high =
       let e : suc (i - 1) ≡ i = omega arith in
       subst (λ (j : ℕ). record_at (made destroyed) (slot j) ≡ r destroyed j) e
       (stands (slot (suc (i - 1))) (λ b. r b (suc (i - 1))) (at (λ j. both (holds (slot (suc j)) (λ b. r b (suc j)))) n t (i - 1) (omega arith)))
@@ -90,14 +90,14 @@ module _ (destroyed : Bool) where
       record {
         valid = kept_each empty_book (records destroyed) empty_valid;
         year = stands (slot_of yr []) (λ b. year_record) tt;
-        line = stands-each lines (λ l. slot_of ln (l ∷ [])) (λ b l. cond (eqb l 1) line_record nothing) tt;
-        head = stands-each months_in_year (λ m. slot_of hd (1 ∷ m ∷ [])) (λ b. head_record) tt;
-        temperature = stands-each months_in_year (λ m. slot_of tp (m ∷ [])) (λ b. temperature_record) tt;
-        drain = stands-each months_in_year (λ m. slot_of dr (1 ∷ m ∷ [])) (λ b m. nothing) tt;
-        project = stands-each months_in_year (λ m. slot_of pe (m ∷ [])) (λ b. project_record) tt;
-        first_device = stands-each months_in_year (λ m. slot_of mt (m ∷ 1 ∷ [])) meter_record tt;
-        second_device = stands-each months_in_year (λ m. slot_of mt (m ∷ 2 ∷ [])) (λ b m. nothing) tt;
-        third_device = stands-each months_in_year (λ m. slot_of mt (m ∷ 3 ∷ [])) (λ b m. nothing) tt;
-        fourth_device = stands-each months_in_year (λ m. slot_of mt (m ∷ 4 ∷ [])) (λ b m. nothing) tt;
+        line = stands_each lines (λ l. slot_of ln (l ∷ [])) (λ b l. cond (eqb l 1) line_record nothing) tt;
+        head = stands_each months_in_year (λ m. slot_of hd (1 ∷ m ∷ [])) (λ b. head_record) tt;
+        temperature = stands_each months_in_year (λ m. slot_of tp (m ∷ [])) (λ b. temperature_record) tt;
+        drain = stands_each months_in_year (λ m. slot_of dr (1 ∷ m ∷ [])) (λ b m. nothing) tt;
+        project = stands_each months_in_year (λ m. slot_of pe (m ∷ [])) (λ b. project_record) tt;
+        first_device = stands_each months_in_year (λ m. slot_of mt (m ∷ 1 ∷ [])) meter_record tt;
+        second_device = stands_each months_in_year (λ m. slot_of mt (m ∷ 2 ∷ [])) (λ b m. nothing) tt;
+        third_device = stands_each months_in_year (λ m. slot_of mt (m ∷ 3 ∷ [])) (λ b m. nothing) tt;
+        fourth_device = stands_each months_in_year (λ m. slot_of mt (m ∷ 4 ∷ [])) (λ b m. nothing) tt;
         month_after = stands (slot_of tp (suc months_in_year ∷ [])) (λ b. nothing) tt;
       }

@@ -28,7 +28,7 @@ use Rattle.year.specs.declared.Answer.TheVariants.{Stated, Refused}
 use Rattle.year.proofs.Answers.{found_is}
 use Rattle.print_page.specs.Number.{word}
 use Rattle.print_years.specs.Text.{answer_text, years_from, printed}
-use Rattle.print_years.proofs.Worked.{worked, printed-whole}
+use Rattle.print_years.proofs.Worked.{worked, printed_whole}
 use Rattle.wrong_programs.proofs.Answers.{year_stated}
 use Rattle.wrong_programs.proofs.WorkedBook.{made, Stands, made_stands}
 use Rattle.wrong_programs.proofs.WorkedReads.{year_is, temperature_is, counted, lined}
@@ -72,16 +72,16 @@ module _ (book : List ℕ) (destroyed : Bool) (s : Stands book destroyed) where
   second =
       sym (found_is book second_year (omega arith) (sym (lacks_month book second_year (ap filled (year_is book destroyed s)) (lined book destroyed s) month_lacking (lit≤ tt))))
 
-pub worked-printed :
+pub worked_printed :
     printed (made true)
     ≡ word "year 1\nentered 175200000 degraded 175200000 removed 0 carried 0\nbaseline 600445440 project 12000000 metered 504000000\nnet 498 credited 498\nrefused 8 at 13\n"
 unfolding printed years_from
-worked-printed =
+worked_printed =
     let first_is = year_stated (made true) first_year (answered true) ∙ ap Stated worked_figures in
     let second_is = second (made true) true (made_stands true) in
     ap (λ (a : Answer). answer_text 1 a (answer_text 2 (answer_of (made true) 2) later)) first_is
     ∙ ap (λ (a : Answer). answer_text 1 (Stated worked) (answer_text 2 a later)) second_is
-    ∙ printed-whole later
+    ∙ printed_whole later
   where
     later : List ℕ
     later = years_from (made true) 3 8

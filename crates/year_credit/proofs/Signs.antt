@@ -76,10 +76,10 @@ module _ {x y : ℤ} (z : ℤ) (n : ℕ) (x-is : x ≡ z) (y-is : y ≡ pos n) (
   difference_read = to_z-of_z difference_fits ∙ difference_is
 
 -- the sizes on the way to the total
-pub reduction-size :
+pub reduction_size :
     (baseline : Co2e) (operator : Operator) →
     mag (reduction_of baseline operator) ≤ baseline.0 + operator.project_methane.0 + (metered_of operator).0 + 1
-reduction-size baseline operator =
+reduction_size baseline operator =
     omega (
       arith,
       minus_size (pos baseline.0) operator.project_methane.0,
@@ -95,7 +95,7 @@ total_size baseline operator =
     let reduction = reduction_of baseline operator in
     omega (
       arith,
-      reduction-size baseline operator,
+      reduction_size baseline operator,
       plus_size reduction operator.baseline_co2.0,
       minus_size (reduction +ℤ pos operator.baseline_co2.0) operator.project_co2.0,
     )
@@ -106,14 +106,14 @@ module _ (baseline : Co2e) (operator : Operator) (small : baseline.0 < sums_most
   added = reduction_of baseline operator +ℤ pos operator.baseline_co2.0
 
   reduction_small : mag (reduction_of baseline operator) < 2 ^ 62
-  reduction_small = omega (arith, reduction-size baseline operator, fits.project_methane, fits.metered)
+  reduction_small = omega (arith, reduction_size baseline operator, fits.project_methane, fits.metered)
 
   added_small : mag added < 2 ^ 62
   added_small =
       omega (
         arith,
         plus_size (reduction_of baseline operator) operator.baseline_co2.0,
-        reduction-size baseline operator,
+        reduction_size baseline operator,
         fits.project_methane,
         fits.metered,
         fits.baseline_co2,
@@ -129,7 +129,7 @@ module _ (baseline : Co2e) (operator : Operator) (small : baseline.0 < sums_most
     pub total_fits : SFits w64 (to_z w64 (of_z w64 (to_z w64 (of_z w64 x) +ℤ to_z w64 (of_z w64 y))) -ℤ to_z w64 (of_z w64 z))
     total_fits = difference_fits added operator.project_co2.0 added_is z-is added_small fits.project_co2
 
-    pub total-read :
+    pub total_read :
         to_z w64 (of_z w64 (to_z w64 (of_z w64 (to_z w64 (of_z w64 x) +ℤ to_z w64 (of_z w64 y))) -ℤ to_z w64 (of_z w64 z))) ≡ total_of baseline operator
     unfolding total_of
-    total-read = difference_read added operator.project_co2.0 added_is z-is added_small fits.project_co2
+    total_read = difference_read added operator.project_co2.0 added_is z-is added_small fits.project_co2

@@ -29,7 +29,7 @@ module _ (book : List ℕ) (v : Valid book) where
       sum_most (λ m. head_at book category (months_before year + m)) 100000 months_in_year
       (λ m low high. head_most category (months_before year + m) there (omega (arith, period.high)))
 
-pub heads-at :
+pub heads_at :
     (book : List ℕ) (year category : ℕ) {heads : List ℕ} → HoldsHeads book year heads → 1 ≤ category → category ≤ categories →
     get_or heads (category - 1) 0 ≡ heads_of book year category
-heads-at book year category held low high = held.each category low high ∙ ap (heads_of book year) (zero-add category)
+heads_at book year category held low high = held.each category low high ∙ ap (heads_of book year) (zero-add category)

@@ -11,7 +11,7 @@ use lib.ListN.{length, get_or}
 use Rattle.units.specs.Grams.{potential, b0_rule_of}
 use Rattle.units.specs.declared.solids.Solids.{Solids}
 use Rattle.calendar.specs.Days.{months_in_year}
-use Rattle.lagoon_run.proofs.Conserved.{conserved, entered-at-most}
+use Rattle.lagoon_run.proofs.Conserved.{conserved, entered_at_most}
 use Rattle.lagoon_month.specs.Asks.{heads_most, entered_most}
 use Rattle.lagoon_month.proofs.Entry.{four}
 use Rattle.lagoon_run.specs.Asks.{RunFits}
@@ -34,7 +34,7 @@ use Rattle.year_sums.specs.Asks.{all_grams}
 use Rattle.year_sums.specs.Sums.{anaerobic_of}
 use Rattle.year_lines.specs.Lines.{anaerobic, daily_of, days_in_year, converted_of, other_of, by_system, line_in, sums_over, all, entered_at, month_at}
 use Rattle.year_sums.specs.declared.Sums.{Sums}
-use Rattle.year_lines.proofs.SameMonths.{same_run, standing-most}
+use Rattle.year_lines.proofs.SameMonths.{same_run, standing_most}
 use Rattle.year_lines.proofs.Ranges.{factor_most, line_ranged, entry_most}
 
 -- the most that any figure of one line in a year can be
@@ -88,14 +88,14 @@ module _ (book : List ℕ) (v : Valid book) (line : ℕ) (there : line ≤ lines
       let standing = (run_of run k).standing in
       let kept = conserved empty_of run k (λ m low high. month_factor m) in
       let kept_on = conserved standing (after k run) 12 (λ m low high. month_factor (k + m)) in
-      let came = entered-at-most empty_of run entered_most k (λ m low high. month_entered m (omega (arith, period.high))) in
-      let came-on = entered-at-most standing (after k run) entered_most 12 (λ m low high. month_entered (k + m) (omega (arith, period.high))) in
+      let came = entered_at_most empty_of run entered_most k (λ m low high. month_entered m (omega (arith, period.high))) in
+      let came-on = entered_at_most standing (after k run) entered_most 12 (λ m low high. month_entered (k + m) (omega (arith, period.high))) in
       let high = period.high in
       record { entered = omega arith; degraded = omega arith; removed = omega arith; carried = omega arith }
 
   -- the arrays of a year that the code fills from the book
   module _ (year : ℕ) (period : InPeriod year) {entered factors : List ℕ} {drained : List Bool}
-      (entered-held : HoldsYear ℕ 0 year (λ m. (entered_at book line m).0) entered)
+      (entered_held : HoldsYear ℕ 0 year (λ m. (entered_at book line m).0) entered)
       (factors-held : HoldsYear ℕ 0 year (factor_at book) factors)
       (drained-held : HoldsYear Bool false year (drained_of book line) drained)
       {from : Standing} (handed_on : from ≡ (run_of (month_at book line) (months_before year)).standing) where
@@ -103,7 +103,7 @@ module _ (book : List ℕ) (v : Valid book) (line : ℕ) (there : line ≤ lines
     entry_at i below =
         let e : i + 1 - 1 ≡ i = omega arith in
         subst (λ (k : ℕ). get_or entered k 0 ≤ entered_most) e
-        (rw (entered-held.each (i + 1) (omega arith) (omega arith)) (entry_most book v line (months_before year + (i + 1)) there (omega (arith, period.high))))
+        (rw (entered_held.each (i + 1) (omega arith) (omega arith)) (entry_most book v line (months_before year + (i + 1)) there (omega (arith, period.high))))
 
     factor_at_lem : (i : ℕ) → i < months_in_year → get_or factors i 0 ≤ million
     factor_at_lem i below =
@@ -116,28 +116,28 @@ module _ (book : List ℕ) (v : Valid book) (line : ℕ) (there : line ≤ lines
         rw handed_on
         (omega (
           arith,
-          standing-most empty_of (month_at book line) (months_before year) (λ m low high. month_factor m)
+          standing_most empty_of (month_at book line) (months_before year) (λ m low high. month_factor m)
               (λ m low high. month_entered m (omega (arith, period.high))),
         ))
 
     pub arrays_fit : RunFits from entered factors drained
     arrays_fit =
         record {
-          room = rw entered-held.long (omega (arith, carried_most, period.high));
-          entry = λ i below. entry_at i (omega (arith, entered-held.long));
-          factor = λ i below. factor_at_lem i (omega (arith, entered-held.long));
-          factors_long = factors-held.long ∙ sym entered-held.long;
-          drained_long = drained-held.long ∙ sym entered-held.long;
+          room = rw entered_held.long (omega (arith, carried_most, period.high));
+          entry = λ i below. entry_at i (omega (arith, entered_held.long));
+          factor = λ i below. factor_at_lem i (omega (arith, entered_held.long));
+          factors_long = factors-held.long ∙ sym entered_held.long;
+          drained_long = drained-held.long ∙ sym entered_held.long;
         }
 
     array_month : (m : ℕ) → 1 ≤ m → m ≤ months_in_year → months_of entered factors drained m ≡ after (months_before year) (month_at book line) m
     unfolding month_at
-    array_month m low high = rw (entered-held.each m low high, factors-held.each m low high, drained-held.each m low high)
+    array_month m low high = rw (entered_held.each m low high, factors-held.each m low high, drained-held.each m low high)
 
     pub year_run : {totals : Totals} → totals ≡ run_from from (months_of entered factors drained) (length entered) → totals ≡ year_of (month_at book line) year
     unfolding year_of
     year_run is =
-        is ∙ ap (run_from from (months_of entered factors drained)) entered-held.long ∙
+        is ∙ ap (run_from from (months_of entered factors drained)) entered_held.long ∙
         same_run from (months_of entered factors drained) (after (months_before year) (month_at book line)) months_in_year array_month ∙
         ap (λ (s : Standing). run_from s (after (months_before year) (month_at book line)) months_in_year) handed_on
 

@@ -33,24 +33,24 @@ module _ (book : List ℕ) (year line : ℕ) {seen : Seen} (read : seen ≡ syst
   absent_is e is = is ∙ by e
 
   module _ {system : ℕ} (value : seen ≡ Value system) {numbers : Line} (Line-read : numbers ≡ line_of book line) where
-    pub anaerobic-is :
+    pub anaerobic_is :
         {totals : Totals} {sums : Sums} → system ≡ anaerobic → totals ≡ year_of (month_at book line) year → sums ≡ anaerobic_of totals numbers.b0 →
         sums ≡ line_in book year line
-    anaerobic-is z run is =
+    anaerobic_is z run is =
         is ∙ rw (run, Line-read) (sym (ap (λ (b : Bool). cond b lagoon other) (eq-eqb system anaerobic z))) ∙ by value
 
-    pub other-is :
+    pub other_is :
         {heads : ℕ} {sums : Sums} → (system ≡ anaerobic → ⊥) → heads ≡ heads_of book year numbers.category → sums ≡ other_of heads numbers →
         sums ≡ line_in book year line
-    other-is z sum is =
+    other_is z sum is =
         is ∙ rw (sum, Line-read) (sym (ap (λ (b : Bool). cond b lagoon other) (ne_eqb system anaerobic z))) ∙ by value
 
-pub one-line-more :
+pub one_line_more :
     (each : ℕ → Sums) (line : ℕ) {sums one next : Sums} → 1 ≤ line → sums ≡ sums_over each all (line - 1) → one ≡ each line → next ≡ plus sums one →
     next ≡ sums_over each all (line + 1 - 1)
 unfolding sums_over
-one-line-more each zero low is read more = absurd (not-suc-le-zero low)
-one-line-more each (suc k) low is read more =
+one_line_more each zero low is read more = absurd (not-suc-le-zero low)
+one_line_more each (suc k) low is read more =
     let earlier : suc k - 1 ≡ k = omega arith in
     let later : suc k + 1 - 1 ≡ suc k = omega arith in
     more ∙ rw (later, is, read, earlier)

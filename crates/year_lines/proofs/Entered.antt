@@ -24,12 +24,12 @@ days_held book year {days} held i =
       | no past ↦ rw (get_or-eq_default days 0 {n = i} (omega (arith, held.long))) (omega arith)
     ]
 
-pub entered-held :
+pub entered_held :
     (book : List ℕ) (line year : ℕ) → 1 ≤ year → (numbers : Line) (heads : ℕ) {days entered : List ℕ} → numbers ≡ line_of book line →
     heads ≡ heads_of book year numbers.category → HoldsYear ℕ 0 year (days_at book) days →
     Holds ℕ 0 months_in_year 0 months_in_year (λ m. (entered_by heads numbers (get_or days (m - 1) 0)).0) entered → HoldsYear ℕ 0 year (λ m. (entered_at book line m).0) entered
 unfolding entered_at
-entered-held book line year some numbers heads {days} read summed held made =
+entered_held book line year some numbers heads {days} read summed held made =
     record {
       long = made.long;
       each = λ m low high.

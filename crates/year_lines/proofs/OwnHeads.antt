@@ -14,7 +14,7 @@ use Rattle.book_herd.proofs.Ranges.{category_some}
 use Rattle.year_months.specs.Asks.{InPeriod}
 use Rattle.year_heads.specs.Heads.{heads_of}
 use Rattle.year_heads.specs.Asks.{HoldsHeads}
-use Rattle.year_heads.proofs.Ranges.{heads-at, heads_most_lem}
+use Rattle.year_heads.proofs.Ranges.{heads_at, heads_most_lem}
 use Rattle.year_lines.proofs.Ranges.{LineRanged, line_ranged}
 
 module _ (book : List ℕ) (v : Valid book) (line : ℕ) (there : line ≤ lines) {system : ℕ} (stands : system_of book line ≡ Value system)
@@ -27,7 +27,7 @@ module _ (book : List ℕ) (v : Valid book) (line : ℕ) (there : line ≤ lines
 
   module _ (year : ℕ) (period : InPeriod year) {heads : List ℕ} (held : HoldsHeads book year heads) {own : ℕ} (is : own ≡ get_or heads (numbers.category - 1) 0) where
     pub summed : own ≡ heads_of book year numbers.category
-    summed = is ∙ heads-at book year numbers.category held of_category ranged.category
+    summed = is ∙ heads_at book year numbers.category held of_category ranged.category
 
     pub few : own ≤ heads_most
     few = rw summed (heads_most_lem book v year period numbers.category ranged.category)

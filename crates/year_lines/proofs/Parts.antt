@@ -5,7 +5,7 @@ use Prim.Native.Nat.{ℕ, ◌+◌}
 use mathlib.Core.List.{List}
 use mathlib.Core.Path.{ap, ◌≡◌}
 use Rattle.laws.proofs.Counting.{Each}
-use Rattle.lagoon_run.proofs.Demand3.{demand-3}
+use Rattle.lagoon_run.proofs.Demand3.{demand_3}
 use Rattle.lagoon_run.proofs.Parts.{Demand3, AddsUp}
 use Rattle.lagoon_run.specs.Run.{run_of}
 use Rattle.book_slots.specs.Reads.{temperature_of}
@@ -38,11 +38,11 @@ module _ (whole first second : LineOf) where
         second_same = record { factor = ap factor_by parts.second_temperature; drained = parts.second_drained };
       }
 
-  pub book-demand-3 :
+  pub book_demand_3 :
       (n : ℕ) → Each n (PartHerds whole first second) →
       Demand3 (run_of (month_at whole.book whole.line) n) (run_of (month_at first.book first.line) n) (run_of (month_at second.book
       second.line) n) n
   unfolding month_at
-  book-demand-3 n parts =
-      demand-3 (month_at whole.book whole.line) (month_at first.book first.line) (month_at second.book second.line) n
+  book_demand_3 n parts =
+      demand_3 (month_at whole.book whole.line) (month_at first.book first.line) (month_at second.book second.line) n
       (λ m low high. adds_up m (parts m low high)) (λ m low high. factor_most whole.book m)

@@ -4,7 +4,7 @@ use Prim.Native.Nat.{ℕ, zero, suc, ◌+◌, ◌*◌, ◌-◌, ◌≤◌}
 use mathlib.Core.Path.{refl, ap, ◌≡◌, ◌∙◌}
 use native.Mathlib.Omega.{arith}
 use Rattle.laws.proofs.Counting.{Each}
-use Rattle.lagoon_run.proofs.Conserved.{conserved, entered-at-most}
+use Rattle.lagoon_run.proofs.Conserved.{conserved, entered_at_most}
 use Rattle.lagoon_month.specs.Asks.{entered_most}
 use Rattle.lagoon_factor.specs.Rule.{million}
 use Rattle.lagoon_month.specs.Month.{empty_of}
@@ -27,7 +27,7 @@ same_year one other y low same =
     ap (λ (t : Totals). run_from t.standing (after k other) 12) (same_run empty_of one other k (λ m l h. same m l (omega arith)))
 
 -- what a run hands on is at most what it started from and what entered
-pub standing-most :
+pub standing_most :
     (standing : Standing) (run : ℕ → Month) (n : ℕ) → Each n (λ m. (run m).factor ≤ million) → Each n (λ m. (run m).entered.0 ≤ entered_most) →
     (run_from standing run n).standing.0.0 ≤ standing.0.0 + n * entered_most
-standing-most standing run n small each = omega (arith, conserved standing run n small, entered-at-most standing run entered_most n each)
+standing_most standing run n small each = omega (arith, conserved standing run n small, entered_at_most standing run entered_most n each)

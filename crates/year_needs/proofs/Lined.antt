@@ -84,10 +84,10 @@ and_right true b e = e
 and_right false b e = not_both refl e
 
 module _ (book : List ℕ) (m : ℕ) {flags : List Bool} (lined : Lined book lines flags) where
-  pub headless-found :
+  pub headless_found :
       (category : ℕ) → 1 ≤ category → category ≤ categories → (get_or flags category false && uncounted book m (Value category)) ≡ true → true ≡ headless book m
   unfolding headless
-  headless-found category low high both =
+  headless_found category low high both =
       let lacks = uncounted book m (Value category) in
       let flag = and_left (get_or flags category false) lacks both in
       let one = found_one (has book category) lines (sym (lined.each category high) ∙ flag) in

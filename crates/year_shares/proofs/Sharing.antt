@@ -78,10 +78,10 @@ share_most category line small = go (eqb line.category category)
     go true = small
     go false = omega arith
 
-pub shared-most :
+pub shared_most :
     (book : List ℕ) (v : Valid book) (n : ℕ) {sums : List ℕ} → n ≤ lines → Shared book n sums → (category : ℕ) → category ≤ categories →
     get_or sums category 0 ≤ 320000
-shared-most book v n within shared category h =
+shared_most book v n within shared category h =
     omega (
       arith,
       shared.each category h,

@@ -22,7 +22,7 @@ use Rattle.year_credit.specs.Credit.{kilogram, total_of}
 use Rattle.year_credit.specs.declared.Operator.{Operator}
 use Rattle.year_splitting.proofs.Solids.{Split}
 use Rattle.year_splitting.proofs.Grams.{stated_over}
-use Rattle.year_splitting.proofs.Lines.{entered-apart}
+use Rattle.year_splitting.proofs.Lines.{entered_apart}
 
 -- the head of month m, of a line that has so many in 2011
 abbrev pub head_in : ℕ → ℕ → ℕ
@@ -54,7 +54,7 @@ unfolding farm
 farm_split m =
     let whole = over_year (year_at m) (head_in 18) in
     let part = over_year (year_at m) (head_in 9) in
-    let apart = entered-apart 100 1000 (days_of 2011 1 m) whole 10000 part 10000 part 10000 (omega (arith, halved (year_at m))) in
+    let apart = entered_apart 100 1000 (days_of 2011 1 m) whole 10000 part 10000 part 10000 (omega (arith, halved (year_at m))) in
     record {
       no_more = apart.0;
       gram_less = apart.1;
@@ -92,21 +92,21 @@ unfolding total_of
 two_filings = rw (baselines.2, baselines.3) (refl, refl)
 
 -- Two filings can lose more: where all the destroyed methane is one filing's, the other's methane counts nothing.
-pub meter-in-one :
+pub meter_in_one :
     (net (stated 18 1) 774 1000000 ≡ pos 5) × (net (stated 9 1) 387 1000000 ≡ pos 2) × (net (stated 9 1) 387 0 ≡ pos 0)
 unfolding total_of
-meter-in-one = rw (baselines.0, baselines.2) (refl, refl, refl)
+meter_in_one = rw (baselines.0, baselines.2) (refl, refl, refl)
 
 -- A smaller herd on the same farm, at B0 33: three head, entered as one and two, are a gram ahead over both years as well.
 abbrev pub smaller : ℕ → ℕ → ℕ
 smaller head year = (b0_rule_of (year_of (farm head) year).degraded 33 potential).0
 
-pub smaller-baselines :
+pub smaller_baselines :
     (smaller 3 1 ≡ 284614) × (smaller 3 2 ≡ 128191) × (smaller 1 1 ≡ 94870) × (smaller 1 2 ≡ 42732) × (smaller 2 1 ≡ 189740) × (smaller 2 2 ≡ 85464)
 unfolding farm sum year_of run_from with_of outcome_of entered_of days_of gone_of length_of lengths_of february_of leap_of factor_of ruled_of summed_of denominator added subtracted b0_rule_of
-smaller-baselines = (refl, refl, refl, refl, refl, refl)
+smaller_baselines = (refl, refl, refl, refl, refl, refl)
 
 pub smaller_gram_ahead : stated_over (farm 1) 33 0 2 + stated_over (farm 2) 33 0 2 ≡ stated_over (farm 3) 33 0 2 + 1
 unfolding sum
 smaller_gram_ahead =
-    rw (smaller-baselines.0, smaller-baselines.1, smaller-baselines.2, smaller-baselines.3, smaller-baselines.4, smaller-baselines.5)
+    rw (smaller_baselines.0, smaller_baselines.1, smaller_baselines.2, smaller_baselines.3, smaller_baselines.4, smaller_baselines.5)

@@ -22,9 +22,9 @@ use Rattle.year_credit.specs.declared.Operator.{Operator}
 use Rattle.year.specs.Figures.{figures_of}
 use Rattle.year.specs.declared.Figures.{Figures}
 use Rattle.year_splitting.proofs.Grams.{most_ahead, most_behind, YearStated}
-use Rattle.year_splitting.proofs.Lines.{SplitLine, SplitMonth, baseline_in, lines-in-first-year, lines-in-year}
-use Rattle.year_splitting.proofs.Others.{but, baseline_of, Placed, line_at, line_and_others, two-and-others}
-use Rattle.year_splitting.proofs.Tonnes.{AtMost, Divided, total-more, totals-more, tonne, net_more, nets_more, shown, credited_more}
+use Rattle.year_splitting.proofs.Lines.{SplitLine, SplitMonth, baseline_in, lines_in_first_year, lines_in_year}
+use Rattle.year_splitting.proofs.Others.{but, baseline_of, Placed, line_at, line_and_others, two_and_others}
+use Rattle.year_splitting.proofs.Tonnes.{AtMost, Divided, total_more, totals_more, tonne, net_more, nets_more, shown, credited_more}
 
 abbrev pub net_in : List ℕ → ℕ → ℤ
 net_in book year = (figures_of book year).net
@@ -53,15 +53,15 @@ pub record WithinATonne (whole split : Figures) : Type 0 where
   pub credited_gained : split.credited ≤ whole.credited + 1
   pub credited_lost : whole.credited ≤ split.credited + 1
 
-pub net-within :
+pub net_within :
     (one other : List ℕ) (year more : ℕ) → operator_of other year ≡ operator_of one year → baseline_of other year all ≤ baseline_of one year all + more →
     AtMost (net_in other year) (net_in one year) ((more + (tonne - 1)) / tonne)
 unfolding figures_of
-net-within one other year more same ahead =
+net_within one other year more same ahead =
     subst
     (λ (o : Operator). AtMost (net_of (total_of (co2e (baseline_of other year all)) o)) (net_of (total_in one year))
     ((more + (tonne - 1)) / tonne))
-    (sym same) (net_more (total-more (baseline_of one year all) (baseline_of other year all) more (operator_of one year) ahead))
+    (sym same) (net_more (total_more (baseline_of one year all) (baseline_of other year all) more (operator_of one year) ahead))
 
 -- the two books' baselines are as far apart as the line's and its parts'
 pub differ :
@@ -72,7 +72,7 @@ differ whole split line first second year filing =
     omega (
       arith,
       line_and_others whole year line filing.line_placed,
-      two-and-others split year first second filing.first_placed filing.second_placed filing.two,
+      two_and_others split year first second filing.first_placed filing.second_placed filing.two,
       filing.others,
     )
 
@@ -86,13 +86,13 @@ module _ (whole split : List ℕ) (line first second : ℕ) (valid : Valid whole
 
   module _ (year : ℕ) (period : InPeriod year) (months : Each (months_through year) Month) (filing : Filed year) where
     stated : YearStated (baseline_in (line_at whole line) year) (baseline_in (line_at split first) year) (baseline_in (line_at split second) year)
-    stated = lines-in-year (line_at whole line) (line_at split first) (line_at split second) herd valid filing.line_placed.high year period months
+    stated = lines_in_year (line_at whole line) (line_at split first) (line_at split second) herd valid filing.line_placed.high year period months
 
     gained : AtMost (net_in split year) (net_in whole year) 1
-    gained = net-within whole split year most_ahead filing.operator (omega (arith, differ whole split line first second year filing, stated.gained))
+    gained = net_within whole split year most_ahead filing.operator (omega (arith, differ whole split line first second year filing, stated.gained))
 
     lost : AtMost (net_in whole year) (net_in split year) 1
-    lost = net-within split whole year most_behind (sym filing.operator) (omega (arith, differ whole split line first second year filing, stated.lost))
+    lost = net_within split whole year most_behind (sym filing.operator) (omega (arith, differ whole split line first second year filing, stated.lost))
 
   -- In any year of the crediting period, at most one tonne more, and at most one less.
   pub one_filing : (year : ℕ) → InPeriod year → Each (months_through year) Month → Filed year → WithinATonne (figures_of whole year) (figures_of split year)
@@ -110,42 +110,42 @@ module _ (whole split : List ℕ) (line first second : ℕ) (valid : Valid whole
   -- In the first year, none more.
   first_gained : Each months_in_year Month → Filed first_year → AtMost (net_in split first_year) (net_in whole first_year) 0
   first_gained months filing =
-      net-within whole split first_year 0 filing.operator
+      net_within whole split first_year 0 filing.operator
       (omega (
         arith,
         differ whole split line first second first_year filing,
-        lines-in-first-year (line_at whole line) (line_at split first) (line_at split second) herd months,
+        lines_in_first_year (line_at whole line) (line_at split first) (line_at split second) herd months,
       ))
 
   pub one_filing_first_year : Each months_in_year Month → Filed first_year → net_in split first_year ≤ℤ net_in whole first_year
   one_filing_first_year months filing = ordered _ _ (omega (arith, (first_gained months filing).most))
 
   -- So over the years from the first on, at most a tonne for each year after it.
-  all-gained :
+  all_gained :
       (later : ℕ) → suc later ≤ last_year → Each (months_through (suc later)) Month → Each (suc later) Filed →
       AtMost (nets_over split (suc later)) (nets_over whole (suc later)) later
   unfolding nets_over
-  all-gained zero within months filed =
+  all_gained zero within months filed =
       omega (
         arith,
         (first_gained (λ m low high. months m low (omega arith)) (filed 1 (omega arith) (omega arith))).most,
         sum_is (pos 0) (net_in split 1),
         sum_is (pos 0) (net_in whole 1),
       )
-  all-gained (suc n) within months filed =
+  all_gained (suc n) within months filed =
       let year = suc (suc n) in
       omega (
         arith,
         (gained year (record { low = omega arith; high = within }) months (filed year (omega arith) (omega arith))).most,
-        (all-gained n (omega arith) (λ m low high. months m low (omega arith)) (λ y low high. filed y low (omega arith))).most,
+        (all_gained n (omega arith) (λ m low high. months m low (omega arith)) (λ y low high. filed y low (omega arith))).most,
         sum_is (nets_over split (suc n)) (net_in split year),
         sum_is (nets_over whole (suc n)) (net_in whole year),
       )
 
-  pub one-filing-years :
+  pub one_filing_years :
       (later : ℕ) → suc later ≤ last_year → Each (months_through (suc later)) Month → Each (suc later) Filed →
       nets_over split (suc later) ≤ℤ (nets_over whole (suc later) +ℤ pos later)
-  one-filing-years later within months filed = shown (all-gained later within months filed)
+  one_filing_years later within months filed = shown (all_gained later within months filed)
 
 -- Two filings: a book in which a line stands whole, and two that have a part of it each. What the others' lines and the operators enter adds up to the whole's.
 pub record TwoFilings (whole first second : LineOf) (year : ℕ) : Type 0 where
@@ -158,14 +158,14 @@ pub record TwoFilings (whole first second : LineOf) (year : ℕ) : Type 0 where
   pub operators : Divided (operator_of whole.book year) (operator_of first.book year) (operator_of second.book year)
 
 module _ (whole first second : LineOf) (valid : Valid whole.book) (herd : SplitLine whole first second) where
-  both-gained :
+  both_gained :
       (year : ℕ) → InPeriod year → Each (months_through year) (SplitMonth whole first second) → TwoFilings whole first second year →
       AtMost (net_in first.book year +ℤ net_in second.book year) (net_in whole.book year) 1
   unfolding figures_of
-  both-gained year period months filings =
-      let stated = lines-in-year whole first second herd valid filings.whole_placed.high year period months in
+  both_gained year period months filings =
+      let stated = lines_in_year whole first second herd valid filings.whole_placed.high year period months in
       nets_more (total_in first.book year) (total_in second.book year)
-      (totals-more (baseline_of whole.book year all) (baseline_of first.book year all) (baseline_of second.book year all) most_ahead
+      (totals_more (baseline_of whole.book year all) (baseline_of first.book year all) (baseline_of second.book year all) most_ahead
       (operator_of whole.book year) (operator_of first.book year) (operator_of second.book year) filings.operators
       (omega (
         arith,
@@ -180,21 +180,21 @@ module _ (whole first second : LineOf) (valid : Valid whole.book) (herd : SplitL
   pub two_filings :
       (year : ℕ) → InPeriod year → Each (months_through year) (SplitMonth whole first second) → TwoFilings whole first second year →
       (net_in first.book year +ℤ net_in second.book year) ≤ℤ (net_in whole.book year +ℤ pos 1)
-  two_filings year period months filings = shown (both-gained year period months filings)
+  two_filings year period months filings = shown (both_gained year period months filings)
 
-  both-all-gained :
+  both_all_gained :
       (years : ℕ) → years ≤ last_year → Each (months_through years) (SplitMonth whole first second) → Each years (TwoFilings whole first second) →
       AtMost (nets_over first.book years +ℤ nets_over second.book years) (nets_over whole.book years) years
   unfolding nets_over
-  both-all-gained zero within months filings = omega arith
-  both-all-gained (suc n) within months filings =
+  both_all_gained zero within months filings = omega arith
+  both_all_gained (suc n) within months filings =
       let year = suc n in
       let a = nets_over first.book n in
       let b = nets_over second.book n in
       omega (
         arith,
-        (both-gained year (record { low = omega arith; high = within }) months (filings year (omega arith) (omega arith))).most,
-        (both-all-gained n (omega arith) (λ m low high. months m low (omega arith)) (λ y low high. filings y low (omega arith))).most,
+        (both_gained year (record { low = omega arith; high = within }) months (filings year (omega arith) (omega arith))).most,
+        (both_all_gained n (omega arith) (λ m low high. months m low (omega arith)) (λ y low high. filings y low (omega arith))).most,
         sum_is (net_in first.book year) (net_in second.book year),
         sum_is a b,
         sum_is a (net_in first.book year),
@@ -204,7 +204,7 @@ module _ (whole first second : LineOf) (valid : Valid whole.book) (herd : SplitL
       )
 
   -- So over the years from the first on, at most a tonne for each year.
-  pub two-filings-years :
+  pub two_filings_years :
       (years : ℕ) → years ≤ last_year → Each (months_through years) (SplitMonth whole first second) → Each years (TwoFilings whole first second) →
       (nets_over first.book years +ℤ nets_over second.book years) ≤ℤ (nets_over whole.book years +ℤ pos years)
-  two-filings-years years within months filings = shown (both-all-gained years within months filings)
+  two_filings_years years within months filings = shown (both_all_gained years within months filings)

@@ -12,7 +12,7 @@ use Rattle.lagoon_month.specs.declared.Month.{Month}
 use Rattle.lagoon_run.specs.Run.{year_of}
 use Rattle.lagoon_run.proofs.Parts.{Through}
 use Rattle.year_months.specs.Series.{last_year}
-use Rattle.year_splitting.proofs.Solids.{Split, degraded_over, years-degraded}
+use Rattle.year_splitting.proofs.Solids.{Split, degraded_over, years_degraded}
 
 -- the B0 rule counts ten-thousandths of a gram of CO2e: so many for each gram of solids, and so many to a gram
 abbrev pub for_each : ℕ → ℕ
@@ -52,10 +52,10 @@ pub record YearsStated (whole first second b0 before years : ℕ) : Type 0 where
 module _ (whole first second : ℕ → Month) (b0 before years : ℕ)
     (split : Through (months_in_year * (before + years)) (λ m. Split (whole m) (first m) (second m)))
     (small : Through (months_in_year * (before + years)) (λ m. (whole m).factor ≤ million)) where
-  pub years-stated :
+  pub years_stated :
       YearsStated (stated_over whole b0 before years) (stated_over first b0 before years) (stated_over second b0 before years) b0 before years
-  years-stated =
-      let solids = years-degraded whole first second before years split small in
+  years_stated =
+      let solids = years_degraded whole first second before years split small in
       let gained = simp add-mul at (mul-le-mul_right (for_each b0) solids.gained) in
       let lost = simp add-mul at (mul-le-mul_right (for_each b0) solids.lost) in
       let w = rounded whole b0 before years in
@@ -74,9 +74,9 @@ highest_b0 = 100
 within_highest : {b0 grams most : ℕ} → b0 ≤ highest_b0 → grams ≤ most → grams * for_each b0 ≤ most * for_each highest_b0
 within_highest low few = mul-le-mul few (mul-le-mul_right (density * potential) low)
 
-pub behind-in-ten-years :
+pub behind_in_ten_years :
     {whole first second b0 years : ℕ} → YearsStated whole first second b0 0 years → b0 ≤ highest_b0 → years ≤ last_year → whole ≤ first + second + 3447
-behind-in-ten-years {b0 = b0} {years = years} stated low within =
+behind_in_ten_years {b0 = b0} {years = years} stated low within =
     let few : months_in_year * (0 + 2 * years) ≤ months_in_year * (2 * last_year) = omega arith in
     omega (arith, stated.lost, within_highest low few)
 
@@ -91,10 +91,10 @@ pub record YearStated (whole first second : ℕ) : Type 0 where
   pub gained : first + second ≤ whole + most_ahead
   pub lost : whole ≤ first + second + most_behind
 
-pub in-one-year :
+pub in_one_year :
     {whole first second b0 before : ℕ} → YearsStated whole first second b0 before 1 → b0 ≤ highest_b0 → before + 1 ≤ last_year →
     YearStated whole first second
-in-one-year {b0 = b0} {before = before} stated low within =
+in_one_year {b0 = b0} {before = before} stated low within =
     let early : months_in_year * before ≤ months_in_year * (last_year - 1) = omega arith in
     let late : months_in_year * (before + 2 * 1) ≤ months_in_year * (last_year + 1) = omega arith in
     record { gained = omega (arith, stated.gained, within_highest low early); lost = omega (arith, stated.lost, within_highest low late) }

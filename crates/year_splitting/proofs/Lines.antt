@@ -20,9 +20,9 @@ use Rattle.year_heads.specs.Heads.{head_at, heads_of}
 use Rattle.year_lines.specs.Lines.{anaerobic, entered_at, month_at, line_in}
 use Rattle.year_lines.proofs.Parts.{LineOf}
 use Rattle.year_lines.proofs.Ranges.{factor_most, line_ranged}
-use Rattle.year_lines.proofs.BySystem.{anaerobic-is}
+use Rattle.year_lines.proofs.BySystem.{anaerobic_is}
 use Rattle.year_splitting.proofs.Solids.{Split}
-use Rattle.year_splitting.proofs.Grams.{stated_over, YearsStated, years-stated, from_first_year, YearStated, in-one-year}
+use Rattle.year_splitting.proofs.Grams.{stated_over, YearsStated, years_stated, from_first_year, YearStated, in_one_year}
 
 abbrev pub numbers_of : LineOf → Line
 numbers_of line = line_of line.book line.line
@@ -42,21 +42,21 @@ ManureDivided whole first second year = manure_in first year + manure_in second 
 
 -- two ways to divide it: the heads, month by month of the year, at one share; or the share, at the same heads
 module _ (whole first second : LineOf) (year : ℕ) where
-  pub heads-divided :
+  pub heads_divided :
       (numbers_of first).share ≡ (numbers_of whole).share → (numbers_of second).share ≡ (numbers_of whole).share →
       Each months_in_year (λ m. let at = months_before year + m in head_in first at + head_in second at ≡ head_in whole at) →
       ManureDivided whole first second year
   unfolding heads_of
-  heads-divided first-share second-share heads =
+  heads_divided first-share second-share heads =
       let sums : heads_in first year + heads_in second year ≡ heads_in whole year =
       sum_plus (λ m. head_in first (months_before year + m)) (λ m. head_in second (months_before year + m)) months_in_year
       ∙ sum_same _ _ months_in_year heads in
       rw (first-share, second-share, ← sums) (omega (arith, add-mul (heads_in first year) (heads_in second year) (numbers_of whole).share))
 
-  pub share-divided :
+  pub share_divided :
       heads_in first year ≡ heads_in whole year → heads_in second year ≡ heads_in whole year →
       (numbers_of first).share + (numbers_of second).share ≡ (numbers_of whole).share → ManureDivided whole first second year
-  share-divided first-heads second-heads shares =
+  share_divided first-heads second-heads shares =
       rw (first-heads, second-heads, ← shares) (omega (arith, mul-add (heads_in whole year) (numbers_of first).share (numbers_of second).share))
 
 -- a line of the same kind of animal; its category and its share may be others
@@ -86,23 +86,23 @@ pub record SplitMonth (whole first second : LineOf) (m : ℕ) : Type 0 where
 pub share_first : (heads solids mass share : ℕ) → heads * solids * mass * share ≡ heads * share * solids * mass
 share_first heads solids mass share = rw (mul_right_comm (heads * solids) mass share, mul_right_comm heads solids share)
 
-pub entered-apart :
+pub entered_apart :
     (solids mass days heads share heads-1 share-1 heads-2 share-2 : ℕ) → heads-1 * share-1 + heads-2 * share-2 ≡ heads * share →
     ((entered_of heads-1 solids mass share-1 days).0 + (entered_of heads-2 solids mass share-2 days).0 ≤ (entered_of heads solids mass share days).0) ×
     ((entered_of heads solids mass share days).0 ≤ (entered_of heads-1 solids mass share-1 days).0 + (entered_of heads-2 solids mass share-2 days).0 + 1)
 unfolding entered_of
-entered-apart solids mass days heads share heads-1 share-1 heads-2 share-2 divided =
+entered_apart solids mass days heads share heads-1 share-1 heads-2 share-2 divided =
     rw (share_first heads solids mass share, share_first heads-1 solids mass share-1, share_first heads-2 solids mass share-2, ← divided)
     (simp add-mul (omega arith))
 
 module _ (whole first second : LineOf) (line : SplitLine whole first second) where
-  split-month :
+  split_month :
       (m : ℕ) → SplitMonth whole first second m →
       Split (month_at whole.book whole.line m) (month_at first.book first.line m) (month_at second.book second.line m)
   unfolding month_at entered_at factor_at
-  split-month m now =
+  split_month m now =
       let year = year_at m in
-      let apart = entered-apart (numbers_of whole).solids (numbers_of whole).mass (days_at whole.book m)
+      let apart = entered_apart (numbers_of whole).solids (numbers_of whole).mass (days_at whole.book m)
       (heads_in whole year) (numbers_of whole).share (heads_in first year) (numbers_of first).share (heads_in second year) (numbers_of second).share
       now.divided in
       let first_is = line.first_kind in
@@ -119,38 +119,38 @@ module _ (whole first second : LineOf) (line : SplitLine whole first second) whe
 abbrev pub baselines_over : LineOf → ℕ → ℕ → ℕ
 baselines_over line before years = sum years (λ y. (line_in line.book (before + y) line.line).baseline.0)
 
-baselines-are :
+baselines_are :
     (line : LineOf) (before years : ℕ) → system_of line.book line.line ≡ Value anaerobic →
     stated_over (month_at line.book line.line) (numbers_of line).b0 before years ≡ baselines_over line before years
-baselines-are line before years lagoon =
+baselines_are line before years lagoon =
     sum_same _ _ years
-    (λ y low high. ap (λ s. s.baseline.0) (anaerobic-is line.book (before + y) line.line refl lagoon refl refl refl refl))
+    (λ y low high. ap (λ s. s.baseline.0) (anaerobic_is line.book (before + y) line.line refl lagoon refl refl refl refl))
 
 module _ (whole first second : LineOf) (line : SplitLine whole first second) (before years : ℕ)
     (months : Each (months_in_year * (before + years)) (SplitMonth whole first second)) where
-  pub lines-stated :
+  pub lines_stated :
       YearsStated (baselines_over whole before years) (baselines_over first before years) (baselines_over second before years) (numbers_of whole).b0 before years
   unfolding month_at
-  lines-stated =
+  lines_stated =
       let first_is = line.first_kind in
       let second_is = line.second_kind in
       rw (
-        ← baselines-are whole before years line.lagoon,
-        ← baselines-are first before years (first_is.system ∙ line.lagoon),
-        ← baselines-are second before years (second_is.system ∙ line.lagoon),
+        ← baselines_are whole before years line.lagoon,
+        ← baselines_are first before years (first_is.system ∙ line.lagoon),
+        ← baselines_are second before years (second_is.system ∙ line.lagoon),
         first_is.b0,
         second_is.b0,
       )
-      (years-stated (month_at whole.book whole.line) (month_at first.book first.line) (month_at second.book second.line)
-      (numbers_of whole).b0 before years (λ m low high. split-month whole first second line m (months m low high))
+      (years_stated (month_at whole.book whole.line) (month_at first.book first.line) (month_at second.book second.line)
+      (numbers_of whole).b0 before years (λ m low high. split_month whole first second line m (months m low high))
       (λ m low high. factor_most whole.book m))
 
 -- Of the years from the first to any, the two lines are ahead by less than a gram for each: of the first year alone, never.
-pub lines-from-first-year :
+pub lines_from_first_year :
     (whole first second : LineOf) → SplitLine whole first second → (years : ℕ) → 1 ≤ years → Each (months_in_year * years) (SplitMonth whole first second) →
     baselines_over first 0 years + baselines_over second 0 years ≤ baselines_over whole 0 years + (years - 1)
-lines-from-first-year whole first second line years some months =
-    from_first_year (lines-stated whole first second line 0 years (λ m low high. months m low (omega arith))) some
+lines_from_first_year whole first second line years some months =
+    from_first_year (lines_stated whole first second line 0 years (λ m low high. months m low (omega arith))) some
 
 -- what a line states in one year
 abbrev pub baseline_in : LineOf → ℕ → ℕ
@@ -160,25 +160,25 @@ alone : (line : LineOf) (year : ℕ) → 1 ≤ year → baselines_over line (yea
 unfolding sum
 alone line year low = let here : year - 1 + 1 ≡ year = omega arith in rw (here, zero-add)
 
-pub lines-in-first-year :
+pub lines_in_first_year :
     (whole first second : LineOf) → SplitLine whole first second → Each months_in_year (SplitMonth whole first second) →
     baseline_in first first_year + baseline_in second first_year ≤ baseline_in whole first_year
-lines-in-first-year whole first second line months =
+lines_in_first_year whole first second line months =
     omega (
       arith,
       alone whole first_year (omega arith),
       alone first first_year (omega arith),
       alone second first_year (omega arith),
-      lines-from-first-year whole first second line 1 (omega arith) (λ m low high. months m low (omega arith)),
+      lines_from_first_year whole first second line 1 (omega arith) (λ m low high. months m low (omega arith)),
     )
 
-pub lines-in-year :
+pub lines_in_year :
     (whole first second : LineOf) → SplitLine whole first second → Valid whole.book → whole.line ≤ lines →
     (year : ℕ) → InPeriod year → Each (months_through year) (SplitMonth whole first second) →
     YearStated (baseline_in whole year) (baseline_in first year) (baseline_in second year)
-lines-in-year whole first second line valid there year period months =
+lines_in_year whole first second line valid there year period months =
     let low = period.low in
     let high = period.high in
     rw (← alone whole year low, ← alone first year low, ← alone second year low)
-    (in-one-year (lines-stated whole first second line (year - 1) 1 (λ m from to. months m from (omega arith)))
+    (in_one_year (lines_stated whole first second line (year - 1) 1 (λ m from to. months m from (omega arith)))
     (line_ranged whole.book valid whole.line there).b0 (omega arith))

@@ -10,7 +10,7 @@ use Rattle.lagoon_factor.specs.Rule.{million}
 use Rattle.lagoon_month.specs.Month.{outcome_of}
 use Rattle.lagoon_run.specs.Run.{with_of, run_from}
 use Rattle.lagoon_run.proofs.Parts.{Through, SameLagoon}
-use Rattle.lagoon_month.proofs.Left.{left-more}
+use Rattle.lagoon_month.proofs.Left.{left_more}
 use Rattle.lagoon_run.proofs.Same.{at, shared}
 
 pub record EntersMore (less more : Month) : Type 0 where
@@ -27,20 +27,20 @@ module _ (less more : Totals) (a b factor : ℕ) (enters : a ≤ b) (small : fac
   with_more : (drained : Bool) → More (with_of less (at factor drained a)) (with_of more (at factor drained b))
   unfolding with_of outcome_of
   with_more drained =
-      let grows = left-more factor (a + less.standing.0.0) (b + more.standing.0.0) small (omega arith) in
+      let grows = left_more factor (a + less.standing.0.0) (b + more.standing.0.0) small (omega arith) in
       elim drained [ true ↦ omega arith | false ↦ omega arith ]
 
 -- from two standings, of which the first is no more than the second
 module _ (less more : ℕ → Month) (low high : Standing) (stands : low.0.0 ≤ high.0.0) where
-  pub more-degrades :
+  pub more_degrades :
       (n : ℕ) → Through n (λ m. EntersMore (less m) (more m)) → Through n (λ m. (more m).factor ≤ million) →
       More (run_from low less n) (run_from high more n)
   unfolding run_from
-  more-degrades zero enters small = omega arith
-  more-degrades (suc n) enters small =
+  more_degrades zero enters small = omega arith
+  more_degrades (suc n) enters small =
       let now = enters (suc n) (omega arith) (omega arith) in
       rw (shared (less (suc n)) (more (suc n)) now.same)
       (with_more (run_from low less n) (run_from high more n) (less (suc n)).entered.0 (more (suc n)).entered.0 (more (suc n)).factor
       now.entered (small (suc n) (omega arith) (omega arith))
-      (more-degrades n (λ m from to. enters m from (omega arith)) (λ m from to. small m from (omega arith)))
+      (more_degrades n (λ m from to. enters m from (omega arith)) (λ m from to. small m from (omega arith)))
       (more (suc n)).drained)

@@ -13,10 +13,10 @@ use Rattle.book_slots.specs.declared.Seen.TheVariants.{Value}
 use Rattle.book_herd.specs.Herd.{system_of}
 use Rattle.year_lines.specs.Lines.{anaerobic, daily_of, days_in_year, converted_of}
 use Rattle.year_lines.proofs.Parts.{LineOf}
-use Rattle.year_lines.proofs.BySystem.{other-is}
+use Rattle.year_lines.proofs.BySystem.{other_is}
 use Rattle.year_splitting.proofs.Lines.{numbers_of, heads_in, ManureDivided, SameKind, share_first, baseline_in}
 use Rattle.year_splitting.proofs.Others.{line_at}
-use Rattle.year_splitting.proofs.Filings.{OneFiling, net_in, net-within, differ}
+use Rattle.year_splitting.proofs.Filings.{OneFiling, net_in, net_within, differ}
 
 abbrev daily_in : LineOf → ℕ → ℕ
 daily_in line year = daily_of (heads_in line year) (numbers_of line)
@@ -38,18 +38,18 @@ pub record SplitYear (whole first second : LineOf) (year : ℕ) : Type 0 where
   pub second_system : SameSystem second whole
   pub divided : ManureDivided whole first second year
 
-baseline-is :
+baseline_is :
     (line : LineOf) (year system : ℕ) → system_of line.book line.line ≡ Value system → (system ≡ anaerobic → ⊥) →
     (b0_rule_of (converted_in line year) (numbers_of line).b0 potential).0 ≡ baseline_in line year
-baseline-is line year system there no_lagoon =
-    ap (λ s. s.baseline.0) (other-is line.book year line.line refl there refl no_lagoon refl refl)
+baseline_is line year system there no_lagoon =
+    ap (λ s. s.baseline.0) (other_is line.book year line.line refl there refl no_lagoon refl refl)
 
 -- of each rounding down: two parts by themselves leave no more than the whole
-rule-no-more :
+rule_no_more :
     (whole first second : Solids) {b0 b0-1 b0-2 : ℕ} → b0-1 ≡ b0 → b0-2 ≡ b0 → first.0 + second.0 ≤ whole.0 →
     (b0_rule_of first b0-1 potential).0 + (b0_rule_of second b0-2 potential).0 ≤ (b0_rule_of whole b0 potential).0
 unfolding b0_rule_of
-rule-no-more whole first second {b0 = b0} same-1 same-2 less =
+rule_no_more whole first second {b0 = b0} same-1 same-2 less =
     rw (same-1, same-2) (omega (arith, simp add-mul at (mul-le-mul_right (density * potential) (mul-le-mul_right b0 less))))
 
 module _ (whole first second : LineOf) (year : ℕ) (split : SplitYear whole first second year) where
@@ -69,11 +69,11 @@ module _ (whole first second : LineOf) (year : ℕ) (split : SplitYear whole fir
       )
       (simp add-mul (omega arith))
 
-  converted-no-more :
+  converted_no_more :
       (converted_in first year).0 + (converted_in second year).0 ≤
       (converted_in whole year).0
   unfolding converted_of
-  converted-no-more =
+  converted_no_more =
       let year-no-more :
       daily_in first year * days_in_year + daily_in second year * days_in_year ≤
       daily_in whole year * days_in_year = omega (arith, daily_no_more) in
@@ -86,17 +86,17 @@ module _ (whole first second : LineOf) (year : ℕ) (split : SplitYear whole fir
       let b = split.second_system.kind in
       omega (
         arith,
-        baseline-is whole year split.system split.there split.no_lagoon,
-        baseline-is first year split.system (a.system ∙ split.there) split.no_lagoon,
-        baseline-is second year split.system (b.system ∙ split.there) split.no_lagoon,
-        rule-no-more (converted_in whole year) (converted_in first year) (converted_in second year) a.b0 b.b0 converted-no-more,
+        baseline_is whole year split.system split.there split.no_lagoon,
+        baseline_is first year split.system (a.system ∙ split.there) split.no_lagoon,
+        baseline_is second year split.system (b.system ∙ split.there) split.no_lagoon,
+        rule_no_more (converted_in whole year) (converted_in first year) (converted_in second year) a.b0 b.b0 converted_no_more,
       )
 
 -- So in one filing two such lines never have a tonne more, in any year.
-pub no-tonne-more :
+pub no_tonne_more :
     (whole split : List ℕ) (line first second year : ℕ) → SplitYear (line_at whole line) (line_at split first) (line_at split second) year →
     OneFiling whole split line first second year → net_in split year ≤ℤ net_in whole year
-no-tonne-more whole split line first second year lines filing =
+no_tonne_more whole split line first second year lines filing =
     let less = never_ahead (line_at whole line) (line_at split first) (line_at split second) year lines in
     let grams = differ whole split line first second year filing in
-    ordered _ _ (omega (arith, (net-within whole split year 0 filing.operator (omega arith)).most))
+    ordered _ _ (omega (arith, (net_within whole split year 0 filing.operator (omega arith)).most))

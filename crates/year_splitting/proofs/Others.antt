@@ -56,11 +56,11 @@ line_at book line = record { book = book; line = line }
 pub line_and_others : (book : List ℕ) (year line : ℕ) → Placed line → baseline_of book year all ≡ baseline_in (line_at book line) year + baseline_of book year (but line all)
 line_and_others book year line placed = taken_out (line_in book year) all line lines refl placed.low placed.high
 
-pub two-and-others :
+pub two_and_others :
     (book : List ℕ) (year first second : ℕ) → Placed first → Placed second → (first ≡ second → ⊥) →
     baseline_of book year all ≡
     baseline_in (line_at book first) year + baseline_in (line_at book second) year + baseline_of book year (but second (but first all))
-two-and-others book year first second first_placed second_placed two =
+two_and_others book year first second first_placed second_placed two =
     let one = line_and_others book year first first_placed in
     let left : but first all second ≡ true = ap not (ne_eqb second first (λ e. two (sym e))) in
     omega (arith, taken_out (line_in book year) (but first all) second lines left second_placed.low second_placed.high)

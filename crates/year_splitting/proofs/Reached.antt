@@ -52,11 +52,11 @@ gram_ahead_split : (m : ℕ) → Split (lagoon (then 500000 million) (then 2 0) 
 gram_ahead_split = split (then 500000 million) 2 0 1 0 (omega arith) (omega arith)
 
 -- Three grams behind after one month: the parts enter a gram less in each month, and in the second month rounding keeps each of them from degrading its gram.
-pub grams-behind :
+pub grams_behind :
     ((after_months 1 (lagoon (then 0 900000) (then 1 3)) 1).degraded.0 ≡ 3) ×
     ((after_months 1 (lagoon (then 0 900000) (then 0 1)) 1).degraded.0 ≡ 0)
 unfolding lagoon run_from with_of outcome_of
-grams-behind = (refl, refl)
+grams_behind = (refl, refl)
 
 grams_behind_split : (m : ℕ) → Split (lagoon (then 0 900000) (then 1 3) m) (lagoon (then 0 900000) (then 0 1) m) (lagoon (then 0 900000) (then 0 1) m)
 grams_behind_split = split (then 0 900000) 1 3 0 1 (omega arith) (omega arith)

@@ -16,9 +16,9 @@ use Rattle.lagoon_run.specs.Run.{with_of, run_from, run_of, after, year_of}
 use Rattle.lagoon_run.proofs.Parts.{Through, SameLagoon, AddsUp, Demand3}
 use Rattle.lagoon_run.proofs.Same.{at}
 use Rattle.lagoon_run.proofs.Conserved.{ConservedFrom, conserved}
-use Rattle.lagoon_run.proofs.Demand3.{Beside, beside, demand-3}
+use Rattle.lagoon_run.proofs.Demand3.{Beside, beside, demand_3}
 use Rattle.lagoon_run.proofs.Years.{joined}
-use Rattle.year_splitting.proofs.More.{EntersMore, More, more-degrades}
+use Rattle.year_splitting.proofs.More.{EntersMore, More, more_degrades}
 
 -- in one month: of what two lines enter, each rounded down by itself, at most a gram is lost against the whole; they share its temperature and drain mark
 pub record Split (whole first second : Month) : Type 0 where
@@ -83,16 +83,16 @@ module _ (whole first second : ℕ → Month) where
   held n split small =
       let sums : Through n (λ m. AddsUp (exact m) (first m) (second m)) = λ m low high. adds m (split m low high) in
       record {
-        third = demand-3 exact first second n sums small;
+        third = demand_3 exact first second n sums small;
         kept = beside exact first second empty_of empty_of empty_of 0 refl n sums small;
-        grows = more-degrades exact whole empty_of empty_of (omega arith) n (λ m low high. enters m (split m low high)) small;
+        grows = more_degrades exact whole empty_of empty_of (omega arith) n (λ m low high. enters m (split m low high)) small;
         conserved_whole = conserved empty_of whole n small;
         close = entered_close exact whole n (λ m low high. (split m low high).gram_less);
       }
 
-  pub from-first-month :
+  pub from_first_month :
       (n : ℕ) → Through n Splits → Through n (λ m. (whole m).factor ≤ million) → FromFirstMonth (run_of whole n) (run_of first n) (run_of second n) n
-  from-first-month n split small =
+  from_first_month n split small =
       let h = held n split small in
       record {
         entered = omega (arith, h.kept.entered, h.grows.entered);
@@ -114,7 +114,7 @@ module _ (whole first second : ℕ → Month) where
     -- no less stands in the whole than in the other, and so no less degrades in any month
     no_less : (after_months k exact n).degraded.0 ≤ (after_months k whole n).degraded.0
     no_less =
-        (more-degrades (after k exact) (after k whole) (run_of exact k).standing (run_of whole k).standing early.grows.carried n
+        (more_degrades (after k exact) (after k whole) (run_of exact k).standing (run_of whole k).standing early.grows.carried n
         (λ m low high. enters (k + m) (later m low high)) later_small).degraded
 
     -- and more stands in the two lines together, so that they lose no more than the rounding of those n months
@@ -146,34 +146,34 @@ module _ (whole first second : ℕ → Month) where
 abbrev pub degraded_over : (ℕ → Month) → ℕ → ℕ → ℕ
 degraded_over months before years = sum years (λ y. (year_of months (before + y)).degraded.0)
 
-years-joined :
+years_joined :
     (months : ℕ → Month) (before years : ℕ) →
     (run_of months (months_in_year * before + months_in_year * years)).degraded.0 ≡ (run_of months (months_in_year * before)).degraded.0 + degraded_over months before years
 unfolding sum year_of
-years-joined months before zero = rw (add-zero (months_in_year * before)) (omega arith)
-years-joined months before (suc n) =
+years_joined months before zero = rw (add-zero (months_in_year * before)) (omega arith)
+years_joined months before (suc n) =
     let year : months_in_year * (before + suc n - 1) ≡ months_in_year * before + months_in_year * n = omega arith in
     let through : months_in_year * before + months_in_year * suc n ≡ months_in_year * before + months_in_year * n + months_in_year = omega arith in
     rw (year, through)
-    (omega (arith, years-joined months before n, (joined empty_of months (months_in_year * before + months_in_year * n) months_in_year).degraded))
+    (omega (arith, years_joined months before n, (joined empty_of months (months_in_year * before + months_in_year * n) months_in_year).degraded))
 
 -- Over so many years, after so many before them.
 pub record YearsDegraded (whole first second before years : ℕ) : Type 0 where
   pub gained : first + second ≤ whole + months_in_year * before
   pub lost : whole ≤ first + second + months_in_year * (before + 2 * years)
 
-pub years-degraded :
+pub years_degraded :
     (whole first second : ℕ → Month) (before years : ℕ) →
     Through (months_in_year * (before + years)) (λ m. Split (whole m) (first m) (second m)) →
     Through (months_in_year * (before + years)) (λ m. (whole m).factor ≤ million) →
     YearsDegraded (degraded_over whole before years) (degraded_over first before years) (degraded_over second before years) before years
-years-degraded whole first second before years split small =
+years_degraded whole first second before years split small =
     let k = months_in_year * before in
     let n = months_in_year * years in
     let apart = after_months_lem whole first second k n (λ m low high. split m low (omega arith)) (λ m low high. small m low (omega arith)) in
-    let w = years-joined whole before years in
-    let a = years-joined first before years in
-    let b = years-joined second before years in
+    let w = years_joined whole before years in
+    let a = years_joined first before years in
+    let b = years_joined second before years in
     omega (
       arith,
       apart,

@@ -60,10 +60,10 @@ totalled baseline operator =
     }
 
 -- One filing: by so many grams as its baseline is above another's, by so many at most is its total, the operator's entries being the same.
-pub total-more :
+pub total_more :
     (one other more : ℕ) (operator : Operator) → other ≤ one + more →
     AtMost (total_of (co2e other) operator) (total_of (co2e one) operator) more
-total-more one other more operator ahead =
+total_more one other more operator ahead =
     let o = totalled one operator in
     let t = totalled other operator in
     let first = t.lesser.first in
@@ -79,10 +79,10 @@ pub record Divided (whole first second : Operator) : Type 0 where
 
 -- Two filings: their totals together are at most so many grams above the whole's as their baselines are. Dividing the metered methane gains nothing, since
 -- the lesser of two sums is never below the sum of the lesser ones.
-pub totals-more :
+pub totals_more :
     (whole first second more : ℕ) (operator operator-1 operator-2 : Operator) → Divided operator operator-1 operator-2 → first + second ≤ whole + more →
     AtMost (total_of (co2e first) operator-1 +ℤ total_of (co2e second) operator-2) (total_of (co2e whole) operator) more
-totals-more whole first second more operator operator-1 operator-2 divided ahead =
+totals_more whole first second more operator operator-1 operator-2 divided ahead =
     let w = totalled whole operator in
     let a = totalled first operator-1 in
     let b = totalled second operator-2 in

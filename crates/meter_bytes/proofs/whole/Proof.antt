@@ -4,7 +4,7 @@ use mathlib.Core.Path.{◌≡◌, sym, ◌∙◌}
 use mathlib.Core.Bool.{true}
 use Prim.Native.Nat.{ℕ, ◌+◌}
 use native.Mathlib.Omega.{arith}
-use borrow.Author.Tests.{eq-eqb, ne_eqb, not_true, not-false}
+use borrow.Author.Tests.{eq-eqb, ne_eqb, not-true, not-false}
 use lib.Dec.{eqb}
 use lib.ListN.{length}
 use Rattle.meter_bytes.specs.Format.{value_at, whole_of}
@@ -69,7 +69,7 @@ unfolding whole_of
 returns-2 c =
     let e = c.before.before.before in
     let a = c.before.before.before.before.before.before.args in
-    rw (as_said e) (c.refused2.ensures ∙ sym (readings_none a.kind a.input.now a.flows a.contents a.temperatures a.pressures (sym c.before.before.fit_a_month.ensures ∙ not_true _ c.before.if2.true)))
+    rw (as_said e) (c.refused2.ensures ∙ sym (readings_none a.kind a.input.now a.flows a.contents a.temperatures a.pressures (sym c.before.before.fit_a_month.ensures ∙ not-true _ c.before.if2.true)))
 
 fit-a-month-requires-2 : tie.Need-fit-a-month-requires-2
 fit-a-month-requires-2 c κs = search rules
@@ -83,7 +83,7 @@ returns-3 c =
     let e = c.before.before.before.before.before in
     let s = c.before.before.before.before.before.before.before.before in
     let a = s.args in
-    rw (as_said e) (c.refused3.ensures ∙ sym (others-none a.kind a.input.now a.flows a.contents a.temperatures a.pressures s.requires.1 (sym c.before.before.fit-a-month2.ensures ∙ not_true _ c.before.if3.true)))
+    rw (as_said e) (c.refused3.ensures ∙ sym (others-none a.kind a.input.now a.flows a.contents a.temperatures a.pressures s.requires.1 (sym c.before.before.fit-a-month2.ensures ∙ not-true _ c.before.if3.true)))
 
 lent-requires : tie.Need-lent-requires
 lent-requires c κs =

@@ -2,7 +2,7 @@
 -- Assumes nothing.
 use mathlib.Core.Path.{◌≡◌, sym, ap, ◌∙◌}
 use mathlib.Core.Bool.{true≢false}
-use borrow.Author.Tests.{eqb-true, not_true, not-false}
+use borrow.Author.Tests.{eqb-true, not-true, not-false}
 use lib.ListN.{length}
 use Rattle.meter_series.specs.Series.{series}
 use Rattle.meter_gaps.specs.Filling.{fill_from, start_of}
@@ -24,7 +24,7 @@ returns-2 : tie.Need-returns-2
 returns-2 c = λ e.
     let s = c.before.before.before.before.before in
     s.requires.1.1.1
-    (start_earlier (series s.args.hours.now) s.args.hour (sym c.before.is_start.ensures ∙ not_true _ c.if2.true))
+    (start_earlier (series s.args.hours.now) s.args.hour (sym c.before.is_start.ensures ∙ not-true _ c.if2.true))
 
 fill-from-requires : tie.Need-fill-from-requires
 fill-from-requires c κs = search rules

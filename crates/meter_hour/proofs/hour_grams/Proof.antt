@@ -2,7 +2,7 @@
 -- Assumes nothing.
 use mathlib.Core.Path.{sym, ap, ◌∙◌}
 use native.Mathlib.Omega.{arith}
-use borrow.Author.Tests.{not_true, not-false}
+use borrow.Author.Tests.{not-true, not-false}
 use Rattle.units.specs.Grams.{methane, share_of}
 use Rattle.units.specs.declared.methane.Methane.{Methane}
 use Rattle.meter_series.specs.Series.{amount}
@@ -33,7 +33,7 @@ unfolding hour_of
 returns-2 c =
     rw (
       sym c.before.before.before.before.is_out.ensures ∙ c.before.before.before.if1.false,
-      sym c.before.before.is_either.ensures ∙ not_true _ c.before.if2.true,
+      sym c.before.before.is_either.ensures ∙ not-true _ c.before.if2.true,
     )
     c.of-grams2.ensures
 

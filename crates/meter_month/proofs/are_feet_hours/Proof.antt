@@ -1,7 +1,7 @@
 -- `meter_month::are_feet_hours` meets its contract: each return knows the test that led there.
 -- Assumes nothing.
 use mathlib.Core.Path.{sym, ◌∙◌}
-use borrow.Author.Tests.{not_true, not-false}
+use borrow.Author.Tests.{not-true, not-false}
 use borrow.Author.Rules.{rules}
 use Rattle.meter_month.proofs.are_feet_hours.Statement.{statement}
 use Rattle.meter_month.proofs.are_feet_hours.Tie as tie
@@ -10,7 +10,7 @@ are-hours-requires : tie.Need-are-hours-requires
 are-hours-requires c κs = search rules
 
 returns : tie.Need-returns
-returns c = rw (sym c.before.are_hours.ensures ∙ not_true _ c.if1.true)
+returns c = rw (sym c.before.are_hours.ensures ∙ not-true _ c.if1.true)
 
 are-hours-requires-2 : tie.Need-are-hours-requires-2
 are-hours-requires-2 c κs = search rules

@@ -3,7 +3,7 @@
 use mathlib.Core.Path.{◌≡◌, sym, ◌∙◌}
 use mathlib.Core.Bool.{true}
 use lib.ListN.{length}
-use borrow.Author.Tests.{not_true, not-false}
+use borrow.Author.Tests.{not-true, not-false}
 use Rattle.meter_month.specs.Month.{are_hours, month_of}
 use Rattle.meter_month.specs.Asks.{hour_in}
 use Rattle.meter_month.proofs.Hours.{as_long}
@@ -22,7 +22,7 @@ refused-requires c κs = search rules
 
 returns : tie.Need-returns
 unfolding month_of
-returns c = rw (sym c.before.before.are_hours.ensures ∙ not_true _ c.before.if1.true) c.refused.ensures
+returns c = rw (sym c.before.before.are_hours.ensures ∙ not-true _ c.before.if1.true) c.refused.ensures
 
 of-hours-requires : tie.Need-of-hours-requires
 of-hours-requires c κs = let long = as_long _ _ _ (are c) in (long, (long.0, long.0, long.2))

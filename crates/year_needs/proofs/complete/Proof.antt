@@ -4,7 +4,7 @@ use mathlib.Core.Bool.{true}
 use mathlib.Core.Path.{ap, sym, ◌∙◌, ◌≡◌}
 use native.Mathlib.Omega.{arith}
 use borrow.Author.Rules.{rules}
-use borrow.Author.Tests.{not-false, not_true}
+use borrow.Author.Tests.{not-false, not-true}
 use Rattle.book_slots.specs.Reads.{first_year_of}
 use Rattle.year_months.specs.Series.{filled}
 use Rattle.year_needs.specs.Complete.{any_line}
@@ -28,7 +28,7 @@ returns : tie.Need-returns
 returns c =
     let start = c.before.before.before.before in
     no_year start.args.book.now start.args.year
-    (ap filled (sym c.before.before.first_year.ensures) ∙ sym c.before.is_filled.ensures ∙ not_true _ c.if1.true)
+    (ap filled (sym c.before.before.first_year.ensures) ∙ sym c.before.is_filled.ensures ∙ not-true _ c.if1.true)
 
 any-line-requires : tie.Need-any-line-requires
 any-line-requires c κs = search rules
@@ -36,7 +36,7 @@ any-line-requires c κs = search rules
 returns-2 : tie.Need-returns-2
 returns-2 c =
     let start = c.before.before.before.before.before.before in
-    no_line_lem start.args.book.now start.args.year (present c.before.before) (sym c.before.any_line.ensures ∙ not_true _ c.if2.true)
+    no_line_lem start.args.book.now start.args.year (present c.before.before) (sym c.before.any_line.ensures ∙ not-true _ c.if2.true)
 
 lined-categories-requires : tie.Need-lined-categories-requires
 lined-categories-requires c κs = search rules

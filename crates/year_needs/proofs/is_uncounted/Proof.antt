@@ -3,7 +3,7 @@
 use mathlib.Core.Bool.{Bool, not, ◌&&◌}
 use mathlib.Core.Path.{ap, sym, ◌∙◌}
 use borrow.Author.Rules.{rules}
-use borrow.Author.Tests.{not-false, not_true}
+use borrow.Author.Tests.{not-false, not-true}
 use Rattle.book_slots.specs.declared.Seen.TheVariants.{Value}
 use Rattle.year_months.specs.Series.{filled}
 use Rattle.year_needs.specs.Complete.{uncounted}
@@ -13,7 +13,7 @@ use Rattle.year_needs.proofs.is_uncounted.Tie as tie
 returns : tie.Need-returns
 returns c =
     let start = c.before.before in
-    sym (ap (λ (b : Bool). b && uncounted start.args.book.now start.args.month (Value start.args.category)) (not_true start.args.lined c.if1.true))
+    sym (ap (λ (b : Bool). b && uncounted start.args.book.now start.args.month (Value start.args.category)) (not-true start.args.lined c.if1.true))
 
 head-requires : tie.Need-head-requires
 head-requires c κs = search rules

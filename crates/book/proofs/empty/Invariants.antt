@@ -1,0 +1,15 @@
+-- `book::empty` meets its contract: the bytes passed are 0. Assumes nothing.
+use mathlib.Core.Path.{◌≡◌, ◌∙◌}
+use lib.ListN.{length, length-set}
+use Prim.Native.Nat.{◌≤◌, ◌-◌}
+use native.Mathlib.Omega.{arith}
+use borrow.Author.Rules.{rules}
+use Rattle.book.specs.Book.{book_bytes}
+use Rattle.book.proofs.Cleared.{Zero, one_more, all_zero}
+use Rattle.book.proofs.empty.Given as goal
+
+abbrev pub invariant-loop-i : goal.invariant-loop-i
+invariant-loop-i l = (length l.book ≡ book_bytes) × (l.i ≤ length l.book) × Zero l.book l.i
+
+abbrev pub decreases-loop-i : goal.decreases-loop-i
+decreases-loop-i l = length l.book - l.i
