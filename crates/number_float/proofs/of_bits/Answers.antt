@@ -1,6 +1,5 @@
 -- `number_float::of_bits` meets its contract: the test passes exactly at a NaN's pattern, and 0.0 / 0.0 is the NaN.
 -- Assumes nothing.
-use borrow.Author.Rules.{rules}
 use borrow.Author.Tests.{lt-ltb, le-ltb}
 use mathlib.Core.Path.{◌≡◌, refl, sym, ap, ◌∙◌, subst}
 use mathlib.Core.Bool.{Bool, true, not, false≢true}
@@ -9,8 +8,7 @@ use lib.Dec.{T, ltb}
 use lib.Bits.{bit_and, and_mask}
 use lib.Ieee.{Float, nan, inf, fin, binary32, is_nan, nan_bits, div, of_bits}
 use lib.Ieee.Bits.{nan_bits_is, nan_bits_above}
-use Rattle.number_float.proofs.of_bits.Statement.{statement}
-use Rattle.number_float.proofs.of_bits.Tie as tie
+use Rattle.number_float.proofs.of_bits.Goals as goal
 
 -- 0.0 / 0.0 as MIR has it, with 0.0 by its bit pattern
 zero_by_zero : div binary32 (of_bits binary32 0) (of_bits binary32 0) ≡ nan
@@ -27,15 +25,12 @@ only_nan (fin s m e) h = absurd (false≢true h)
 is-test : (n : ℕ) → nan_bits binary32 n ≡ ltb 0x7f80_0000 (bit_and n 0x7fff_ffff)
 is-test n = nan_bits_above binary32 n ∙ ap (λ (z : ℕ). ltb 0x7f80_0000 z) (sym (and_mask n 31))
 
-float-from-bits-result : tie.Need-float-from-bits-result
-float-from-bits-result c =
-    let n = c.before.args.bits in
-    subst (λ (b : Bool). T (not b)) (sym (is-test n ∙ le-ltb 0x7f80_0000 (bit_and n 0x7fff_ffff) c.if1.false)) tt
+pub float_from_bits-result : goal.float_from_bits-result
+float_from_bits-result c =
+    let n = c.args.bits in
+    subst (λ (b : Bool). T (not b)) (sym (is-test n ∙ le-ltb 0x7f80_0000 (bit_and n 0x7fff_ffff) c.if-bits-gt-INFINITE.false)) tt
 
-returns : tie.Need-returns
-returns c =
-    let n = c.before.args.bits in
-    zero_by_zero ∙ sym (only_nan (of_bits binary32 n) (sym (nan_bits_is binary32 n) ∙ is-test n ∙ lt-ltb 0x7f80_0000 (bit_and n 0x7fff_ffff) c.if1.true))
-
-pub of-bits-spec : {M : Type 1} → statement M
-of-bits-spec = tie.close (tie.spec float-from-bits-result returns (λ c. search rules))
+pub returns-then-bits-gt-INFINITE : goal.returns-then-bits-gt-INFINITE
+returns-then-bits-gt-INFINITE c =
+    let n = c.args.bits in
+    zero_by_zero ∙ sym (only_nan (of_bits binary32 n) (sym (nan_bits_is binary32 n) ∙ is-test n ∙ lt-ltb 0x7f80_0000 (bit_and n 0x7fff_ffff) c.if-bits-gt-INFINITE.true))
