@@ -1,5 +1,4 @@
 -- `calendar::days` meets its contract: what `gone_by` and `length` ensure is the definition, step by step. Assumes nothing.
-use borrow.Author.Rules.{rules}
 use Rattle.calendar.specs.Days.{days_of}
 use Rattle.calendar.proofs.days.Goals as goal
 

@@ -1,5 +1,4 @@
 -- `calendar::february` meets its contract: each arm by what `leap` ensures. Assumes nothing.
-use borrow.Author.Rules.{rules}
 use Rattle.calendar.specs.Days.{february_of}
 use Rattle.calendar.proofs.february.Goals as goal
 

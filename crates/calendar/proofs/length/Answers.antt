@@ -1,7 +1,6 @@
 -- `calendar::length` meets its contract: in the first two arms the list is read at the month's place; in the last the month is told to have 31 days.
 -- Assumes nothing.
 use mathlib.Core.Logic.{⊎_elim, inl, inr}
-use borrow.Author.Rules.{rules}
 use borrow.Author.Tests.{ne_eqb}
 use Rattle.calendar.specs.Days.{lengths_of, length_of}
 use Rattle.calendar.proofs.Months.{told, is_told}
