@@ -31,11 +31,11 @@ unfolding amount
 none_most k = omega arith
 
 -- what is taken, with a part of the hour that is small for each number that counts
-taking-most :
+taking_most :
     (part : Hour → Value) → part Refused ≡ Missing → (m : Measure) (hour : Value → Hour) (k : ℕ) →
     ((n : ℕ) → m ≡ Whole n → amount (part (hour (Recorded n))) ≤ k) → amount (part (taking m hour)) ≤ k
-taking-most part none (Whole n) hour k h = h n refl
-taking-most part none TurnedDown hour k h = rw none (none_most k)
+taking_most part none (Whole n) hour k h = h n refl
+taking_most part none TurnedDown hour k h = rw none (none_most k)
 
 litres_most : (x : Float) (n : ℕ) → litres_of x ≡ Whole n → amount (Recorded n) ≤ most_flow CubicMetres
 unfolding amount
@@ -48,19 +48,19 @@ hundredths_most x n e = (scaled_within 100 0 100 x n e).1
 flow_most : (r : Reading) → amount (flow_of (recorded_of r)) ≤ most_flow CubicMetres
 unfolding recorded_of
 flow_most (Both f c) =
-    taking-most flow_of refl (litres_of f) (λ v. taking (hundredths_of c) (Taken v)) 100000000
-    (λ n e. taking-most flow_of refl (hundredths_of c) (Taken (Recorded n)) 100000000 (λ k d. litres_most f n e))
-flow_most (NoFlow c) = taking-most flow_of refl (hundredths_of c) (Taken Missing) 100000000 (λ n e. none_most 100000000)
-flow_most (NoContent f) = taking-most flow_of refl (litres_of f) (λ v. Taken v Missing) 100000000 (litres_most f)
+    taking_most flow_of refl (litres_of f) (λ v. taking (hundredths_of c) (Taken v)) 100000000
+    (λ n e. taking_most flow_of refl (hundredths_of c) (Taken (Recorded n)) 100000000 (λ k d. litres_most f n e))
+flow_most (NoFlow c) = taking_most flow_of refl (hundredths_of c) (Taken Missing) 100000000 (λ n e. none_most 100000000)
+flow_most (NoContent f) = taking_most flow_of refl (litres_of f) (λ v. Taken v Missing) 100000000 (litres_most f)
 flow_most Neither = none_most 100000000
 
 content_most : (r : Reading) → amount (content_of (recorded_of r)) ≤ most_content
 unfolding recorded_of
 content_most (Both f c) =
-    taking-most content_of refl (litres_of f) (λ v. taking (hundredths_of c) (Taken v)) most_content
-    (λ n e. taking-most content_of refl (hundredths_of c) (Taken (Recorded n)) most_content (hundredths_most c))
-content_most (NoFlow c) = taking-most content_of refl (hundredths_of c) (Taken Missing) most_content (hundredths_most c)
-content_most (NoContent f) = taking-most content_of refl (litres_of f) (λ v. Taken v Missing) most_content (λ n e. none_most most_content)
+    taking_most content_of refl (litres_of f) (λ v. taking (hundredths_of c) (Taken v)) most_content
+    (λ n e. taking_most content_of refl (hundredths_of c) (Taken (Recorded n)) most_content (hundredths_most c))
+content_most (NoFlow c) = taking_most content_of refl (hundredths_of c) (Taken Missing) most_content (hundredths_most c)
+content_most (NoContent f) = taking_most content_of refl (litres_of f) (λ v. Taken v Missing) most_content (λ n e. none_most most_content)
 content_most Neither = none_most most_content
 
 pub either_most : (part : Hour → Value) → part Refused ≡ Missing → (t : Bool) (hour : Hour) (k : ℕ) → amount (part hour) ≤ k → amount (part (cond t Refused hour)) ≤ k
@@ -105,11 +105,11 @@ picked_most : (b : Bool) (x y m : ℕ) → x ≤ m → y ≤ m → cond b x y �
 picked_most true x y m p q = p
 picked_most false x y m p q = q
 
-pub hour-most :
+pub hour_most :
     (k : Kind) (e s : ℕ) (f c flow content : Value) →
     e ≤ whole_efficiency → amount flow ≤ most_flow k → amount content ≤ most_content → hour_of k e s f c flow content ≤ most_grams
 unfolding hour_of
-hour-most k e s f c flow content h a b =
+hour_most k e s f c flow content h a b =
     let grams = grams_in k (amount flow) (amount content) in
     picked_most (is_out s) 0 (cond (is_recorded f || is_recorded c) (share_of grams e whole_efficiency) 0) most_grams (omega arith)
     (picked_most (is_recorded f || is_recorded c) (share_of grams e whole_efficiency) 0 most_grams
