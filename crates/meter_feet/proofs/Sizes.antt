@@ -29,11 +29,11 @@ use Rattle.meter_feet.specs.Feet.{corrected_of, counting, flow_in, content_in, h
 pub product_most : (flow pressure : ℕ) → flow ≤ 40000000 → pressure ≤ 100000 → flow * 52000 * pressure ≤ 208000000000000000
 product_most flow pressure f p = mul-le-mul {n₁ = flow * 52000} {m₁ = pressure} {n₂ = 2080000000000} {m₂ = 100000} (omega arith) p
 
-pub corrected-most :
+pub corrected_most :
     (flow temperature pressure : ℕ) → flow ≤ 40000000 → 40000 ≤ temperature → pressure ≤ 100000 →
     corrected_of flow temperature pressure ≤ most_flow CubicFeet
 unfolding corrected_of
-corrected-most flow temperature pressure f t p = div-le_of_le-mul (temperature * 10000) (omega (arith, product_most flow pressure f p))
+corrected_most flow temperature pressure f t p = div-le_of_le-mul (temperature * 10000) (omega (arith, product_most flow pressure f p))
 
 -- what a checked value counts, nothing where it is bad
 abbrev value_in : Checked → Value
@@ -44,10 +44,10 @@ picked_most : (b : Bool) (x y : Checked) (k : ℕ) → amount (value_in x) ≤ k
 picked_most true x y k p q = p
 picked_most false x y k p q = q
 
-counting-most :
+counting_most :
     (m : Measure) (counted : ℕ → Checked) (k : ℕ) → ((n : ℕ) → m ≡ Whole n → amount (value_in (counted n)) ≤ k) → amount (value_in (counting m counted)) ≤ k
-counting-most (Whole n) counted k h = h n refl
-counting-most TurnedDown counted k h = none_most k
+counting_most (Whole n) counted k h = h n refl
+counting_most TurnedDown counted k h = none_most k
 
 recorded_most : (n k : ℕ) → n ≤ k → amount (Recorded n) ≤ k
 unfolding amount
@@ -58,18 +58,18 @@ unfolding flow_in
 flow_most sample state =
     let most = most_flow CubicFeet in
     picked_most (has 8 state) (Counted Missing) _ most (none_most most)
-    (counting-most (temperature_of sample.temperature) _ most
-    (λ t d. counting-most (pressure_of sample.pressure) _ most
+    (counting_most (temperature_of sample.temperature) _ most
+    (λ t d. counting_most (pressure_of sample.pressure) _ most
     (λ p e. picked_most (has 1 state) (Counted Missing) _ most (none_most most)
-    (counting-most (cubic_feet_of sample.flow) _ most
+    (counting_most (cubic_feet_of sample.flow) _ most
     (λ f g. recorded_most (corrected_of f t p) most
-    (corrected-most f t p (scaled_within 100 0 400000 sample.flow f g).1 (scaled_within 100 400 700 sample.temperature t d).0 (scaled_within 10000 0 10 sample.pressure p e).1))))))
+    (corrected_most f t p (scaled_within 100 0 400000 sample.flow f g).1 (scaled_within 100 400 700 sample.temperature t d).0 (scaled_within 10000 0 10 sample.pressure p e).1))))))
 
 content_most : (sample : Sample) (state : ℕ) → amount (value_in (content_in sample state)) ≤ most_content
 unfolding content_in
 content_most sample state =
     picked_most (has 2 state) (Counted Missing) _ most_content (none_most most_content)
-    (counting-most (hundredths_of sample.content) _ most_content
+    (counting_most (hundredths_of sample.content) _ most_content
     (λ n e. recorded_most n most_content (scaled_within 100 0 100 sample.content n e).1))
 
 hour_flow : (f c : Checked) (k : ℕ) → amount (value_in f) ≤ k → amount (flow_of (hour_of f c)) ≤ k
