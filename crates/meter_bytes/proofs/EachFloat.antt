@@ -23,10 +23,10 @@ floats_get input at (suc n) (suc k) b =
     let e : at + 4 + 4 * k ≡ at + 4 * suc k = omega arith in
     floats_get input (at + 4) n k (omega arith) ∙ ap (float_at input) e
 
-pub floats-first :
+pub floats_first :
     (input : List ℕ) (at n : ℕ) (out : List Float) → n ≤ length out →
     ((k : ℕ) → k < n → get_or out k nan ≡ float_at input (at + 4 * k)) → take n out ≡ floats_at input at n
-floats-first input at n out long each =
+floats_first input at n out long each =
     let sized : length (take n out) ≡ n = length-take-le n out long in
     ext_get_or nan (take n out) (floats_at input at n) (sized ∙ sym (floats_length input at n))
     (λ k b. let l : k < n = omega arith in get_or-take n out k nan l ∙ each k l ∙ sym (floats_get input at n k l))

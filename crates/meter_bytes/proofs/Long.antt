@@ -35,14 +35,14 @@ not_true : (b : Bool) → (b ≡ true → ⊥) → b ≡ false
 not_true true h = absurd (h refl)
 not_true false h = refl
 
-no-month :
+no_month_lem :
     (kind : Kind) (flows contents temperatures pressures : List Float) (states : List ℕ) (efficiency : ℕ) →
     (Long kind (length flows) (length contents) (length temperatures) (length pressures) (length states) → ⊥) →
     month_in kind flows contents temperatures pressures states efficiency ≡ not_lent
 unfolding month_in month_of feet_month_of
-no-month CubicMetres F C T P S e h =
+no_month_lem CubicMetres F C T P S e h =
     rw (not_true (are_hours (length F) (length C) (length S)) (λ z. h (as_long (length F) (length C) (length S) z)))
-no-month CubicFeet F C T P S e h =
+no_month_lem CubicFeet F C T P S e h =
     rw (not_true (are_feet_hours (length F) (length C) (length T) (length P) (length S)) (λ z. h (all_as_long (length F) (length C) (length T) (length P) (length S) z)))
 
 module _ (kind : Kind) (input : List ℕ) (f c t p : ℕ) where
@@ -53,7 +53,7 @@ module _ (kind : Kind) (input : List ℕ) (f c t p : ℕ) where
   lent_none : (Long kind f c t p left → ⊥) → lent_of kind input f c t p ≡ not_lent
   unfolding lent_of
   lent_none h =
-      no-month kind (floats_at input (value_at kind 0) f) (floats_at input (value_at kind f) c) (floats_at input (value_at kind (f + c)) t) (floats_at input (value_at kind (f + c + t)) p)
+      no_month_lem kind (floats_at input (value_at kind 0) f) (floats_at input (value_at kind f) c) (floats_at input (value_at kind (f + c)) t) (floats_at input (value_at kind (f + c + t)) p)
       (drop (value_at kind (f + c + t + p)) input) (number_at input 2 2)
       (rw (
         floats_length input (value_at kind 0) f,
@@ -75,10 +75,10 @@ pub readings_none : (kind : Kind) (input : List ℕ) (f c t p : ℕ) → (leb f 
 readings_none CubicMetres input f c t p e = lent_none CubicMetres input f c t p (λ h. fit f c (left CubicMetres input f c t p) h e)
 readings_none CubicFeet input f c t p e = lent_none CubicFeet input f c t p (λ h. fit f c (left CubicFeet input f c t p) h.0 e)
 
-pub others-none :
+pub others_none :
     (kind : Kind) (input : List ℕ) (f c t p : ℕ) → Has kind t p → (leb t most_hours && leb p most_hours) ≡ false → lent_of kind input f c t p ≡ not_lent
-others-none CubicMetres input f c t p has e = absurd (fit t p 0 (has.0, has.1, omega arith) e)
-others-none CubicFeet input f c t p has e = lent_none CubicFeet input f c t p (λ h. fit t p (left CubicFeet input f c t p) h.1 e)
+others_none CubicMetres input f c t p has e = absurd (fit t p 0 (has.0, has.1, omega arith) e)
+others_none CubicFeet input f c t p has e = lent_none CubicFeet input f c t p (λ h. fit t p (left CubicFeet input f c t p) h.1 e)
 
 too_long : (kind : Kind) (length f c t p s : ℕ) → Has kind t p → longest_bytes < length → length ≡ value_at kind (f + c + t + p) + s → Long kind f c t p (length - value_at kind (f + c + t + p)) → ⊥
 too_long CubicMetres length f c t p s has long whole h = omega (arith, has.0, has.1, h.0, h.1, h.2)

@@ -11,10 +11,10 @@ use Rattle.meter_series.specs.Series.{is_recorded}
 use Rattle.meter_gaps.specs.Filling.{start_of, plus, total_of}
 use Rattle.meter_series.specs.declared.Value.{Value}
 
-pub total-more :
+pub total_more :
     (s : ℕ → Value) (a k : ℕ) {t v : Value} → t ≡ total_of s a k → v ≡ s (a + k) → plus t v ≡ total_of s a (k + 1)
 unfolding total_of
-total-more s a k p q = rw (add-one k, p, q)
+total_more s a k p q = rw (add-one k, p, q)
 
 pub start_le : (s : ℕ → Value) (h : ℕ) → start_of s h ≤ h
 unfolding start_of

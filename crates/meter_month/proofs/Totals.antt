@@ -13,7 +13,7 @@ use Rattle.meter_series.specs.Series.{amount}
 use Rattle.meter_hour.specs.declared.Kind.{Kind}
 use Rattle.meter_hour.specs.Hour.{hour_of, whole_efficiency}
 use Rattle.meter_hour.specs.Room.{most_flow, most_content}
-use Rattle.meter_hour.proofs.Sizes.{most_grams, hour-most}
+use Rattle.meter_hour.proofs.Sizes.{most_grams, hour_most}
 use Rattle.meter_month.specs.Month.{grams_of}
 
 module _ (k : Kind) (e : ℕ) (state : ℕ → ℕ) (f c flow content : ℕ → Value) where
@@ -25,11 +25,11 @@ module _ (k : Kind) (e : ℕ) (state : ℕ → ℕ) (f c flow content : ℕ → 
   unfolding grams_of
   grams_none = sum_none (λ n. grams (n - 1))
 
-  pub grams-more :
+  pub grams_more :
       (n : ℕ) {t v : Methane} → t ≡ methane (grams_of k e state f c flow content n) →
       v ≡ methane (grams n) → methane (t.0 + v.0) ≡ methane (grams_of k e state f c flow content (n + 1))
   unfolding grams_of sum
-  grams-more n p q =
+  grams_more n p q =
       let one : n + 1 ≡ suc n = add-one n in
       let here : suc n - 1 ≡ n = omega arith in
       rw (p, q, one, here)
@@ -39,4 +39,4 @@ module _ (k : Kind) (e : ℕ) (state : ℕ → ℕ) (f c flow content : ℕ → 
     unfolding grams_of
     grams_small n =
         sum_most (λ i. grams (i - 1)) most_grams n
-        (λ i low high. hour-most k e (state (i - 1)) (f (i - 1)) (c (i - 1)) (flow (i - 1)) (content (i - 1)) whole (flows (i - 1)) (contents (i - 1)))
+        (λ i low high. hour_most k e (state (i - 1)) (f (i - 1)) (c (i - 1)) (flow (i - 1)) (content (i - 1)) whole (flows (i - 1)) (contents (i - 1)))

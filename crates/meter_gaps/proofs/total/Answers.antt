@@ -7,7 +7,7 @@ use borrow.Author.Rules.{rules}
 use Rattle.meter_series.specs.Series.{series, most_amount}
 use Rattle.meter_gaps.specs.Filling.{total_of, neighbours}
 use Rattle.meter_gaps.proofs.Sizes.{total_most}
-use Rattle.meter_gaps.proofs.Stepping.{total-more}
+use Rattle.meter_gaps.proofs.Stepping.{total_more}
 use Rattle.meter_gaps.proofs.total.Goals as goal
 
 pub loop-i-init : goal.loop-i-init
@@ -24,7 +24,7 @@ pub loop-i-preserved : goal.loop-i-preserved
 loop-i-preserved c =
     let a = c.args in
     let l = c.loop-i in
-    (search rules, c.sum-sum_of.ensures ∙ total-more (series a.hours.now) a.from l.i l.invariant.1 c.at.ensures)
+    (search rules, c.sum-sum_of.ensures ∙ total_more (series a.hours.now) a.from l.i l.invariant.1 c.at.ensures)
 
 pub returns : goal.returns
 returns c =
