@@ -1,0 +1,22 @@
+-- `year_shares::over_shared` meets its contract: the search passes each category whose shares do not sum above the whole.
+-- Assumes nothing.
+use Prim.Native.Nat.{◌+◌, ◌-◌, ◌≤◌}
+use mathlib.Core.Path.{ap, sym, ◌∙◌, ◌≡◌}
+use native.Mathlib.Omega.{arith}
+use borrow.Author.Tests.{le-ltb, lt-ltb}
+use lib.Dec.{ltb}
+use lib.ListN.{get_or}
+use Rattle.laws.proofs.Counting.{begins, found, none, passed}
+use Rattle.laws.specs.Counting.{first, first_from}
+use Rattle.record_table.specs.Table.{categories}
+use Rattle.year_shares.specs.Shares.{over_of, shares_of, whole_share}
+use Rattle.year_shares.proofs.Sharing.{shared_all}
+use Rattle.year_shares.proofs.over_shared.Given as goal
+
+abbrev pub invariant-loop-category : goal.invariant-loop-category
+invariant-loop-category l =
+    (1 ≤ l.category) × (l.category ≤ categories + 1) ×
+    (first categories (λ k. ltb whole_share (shares_of l.book k)) ≡ first_from l.category (categories + 1 - l.category) (λ k. ltb whole_share (shares_of l.book k)))
+
+abbrev pub decreases-loop-category : goal.decreases-loop-category
+decreases-loop-category l = categories + 1 - l.category
