@@ -1,7 +1,7 @@
 -- Lists that are not as long as a month's states are refused, and so is an input that is longer than the longest month, whatever its bytes after the
 -- mark: it is read no further than that.
 -- Assumes nothing.
-use Prim.Native.{Nat.ℕ, Nat.◌+◌, Nat.◌*◌, Nat.◌-◌, Nat.◌≤◌, Nat.◌<◌, Char.code}
+use Prim.Native.{Nat.ℕ, Nat.◌+◌, Nat.◌-◌, Nat.◌<◌, Char.code}
 use mathlib.Core.Path.{◌≡◌, refl, ap, sym, ◌∙◌}
 use mathlib.Core.Bool.{Bool, true, false, ◌&&◌, cond}
 use mathlib.Core.List.{List, ◌++◌}
@@ -19,7 +19,7 @@ use Rattle.meter_month.specs.declared.MonthAnswer.TheVariants.{Refused}
 use Rattle.meter_month.specs.Month.{are_hours, are_feet_hours, month_of, feet_month_of}
 use Rattle.meter_month.specs.Asks.{AsLong, AllAsLong}
 use Rattle.meter_month.proofs.Hours.{as_long, all_as_long}
-use Rattle.meter_bytes.specs.Format.{header_bytes, longest_bytes, is_mark, is_other_mark, count_at, floats_at, month_in, value_at, lent_of, whole_of, counted_of, stated_of}
+use Rattle.meter_bytes.specs.Format.{longest_bytes, is_mark, is_other_mark, count_at, floats_at, month_in, value_at, lent_of, whole_of, counted_of, stated_of}
 use Rattle.meter_bytes.specs.Asks.{Has}
 use Rattle.meter_bytes.proofs.EachFloat.{floats_length}
 

@@ -1,5 +1,5 @@
 -- At 520 degrees and 1 atm the corrected flow is the flow, whatever it is. Assumes nothing.
-use Prim.Native.Nat.{ℕ, ◌*◌, ◌/◌}
+use Prim.Native.Nat.{ℕ}
 use mathlib.Core.Path.{◌≡◌}
 use native.Mathlib.Omega.{arith}
 use Rattle.meter_feet.specs.Feet.{corrected_of}

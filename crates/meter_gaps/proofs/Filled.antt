@@ -1,12 +1,10 @@
 -- What `filled` is inside the month and past its end.
 -- Assumes nothing.
-use Prim.Native.Nat.{ℕ, zero, suc, ◌≤◌, ◌<◌}
-use mathlib.Core.Path.{◌≡◌, refl, ap, ◌∙◌}
-use mathlib.Core.Bool.{Bool, true, false}
-use lib.Dec.{ltb}
-use lib.ListN.{get_or, replicate}
-use borrow.Author.Tests.{lt-ltb, le-ltb, ltb-true, ltb-false}
-use Rattle.meter_series.specs.Series.{is_recorded, value_of, series}
+use Prim.Native.Nat.{ℕ, ◌≤◌, ◌<◌}
+use mathlib.Core.Path.{◌≡◌, refl}
+use mathlib.Core.Bool.{false}
+use borrow.Author.Tests.{lt-ltb, le-ltb}
+use Rattle.meter_series.specs.Series.{is_recorded}
 use Rattle.meter_gaps.specs.Filling.{start_of, fill_from, or_else, filled}
 use Rattle.meter_series.specs.declared.Value.{Value}
 use Rattle.meter_series.specs.declared.Value.TheVariants.{Recorded, Missing}

@@ -1,6 +1,6 @@
 -- No number that filling makes is larger than the largest that was recorded: an average is at most the largest of the eight.
 -- Assumes nothing.
-use Prim.Native.Nat.{ℕ, zero, suc, ◌+◌, ◌*◌, ◌-◌, ◌/◌, ◌≤◌}
+use Prim.Native.Nat.{ℕ, zero, suc, ◌+◌, ◌*◌, ◌-◌, ◌≤◌}
 use mathlib.Core.Bool.{Bool, true, false, ◌&&◌, cond}
 use native.Mathlib.Nat.{suc-mul}
 use native.Mathlib.Omega.{arith}

@@ -1,20 +1,15 @@
 -- An hour more: of a sum, and of the run that an hour stands in.
 -- Assumes nothing.
 use Prim.Native.Nat.{ℕ, zero, suc, ◌+◌, ◌-◌, ◌≤◌, ◌<◌}
-use mathlib.Core.Path.{◌≡◌, refl, ap, sym, ◌∙◌, subst}
+use mathlib.Core.Path.{◌≡◌, refl, sym, subst}
 use mathlib.Core.Bool.{Bool, true, false, cond}
-use mathlib.Core.List.{List}
 use native.Mathlib.Numerals.{add-one}
 use native.Mathlib.Omega.{arith}
-use borrow.Author.Count.{below_more}
 use borrow.Author.Tests.{eq-eqb, ne_eqb, eqb-false}
 use lib.Dec.{eqb}
-use lib.ListN.{length, set}
-use lib.Seq.{get_or-set_same, get_or-set_other}
-use Rattle.meter_series.specs.Series.{is_recorded, value_of, series}
+use Rattle.meter_series.specs.Series.{is_recorded}
 use Rattle.meter_gaps.specs.Filling.{start_of, plus, total_of}
 use Rattle.meter_series.specs.declared.Value.{Value}
-use Rattle.meter_series.specs.declared.Value.TheVariants.{Recorded, Missing}
 
 pub total_more :
     (s : ℕ → Value) (a k : ℕ) {t v : Value} → t ≡ total_of s a k → v ≡ s (a + k) → plus t v ≡ total_of s a (k + 1)

@@ -2,13 +2,12 @@
 -- its end.
 -- Assumes nothing.
 use Prim.Native.Nat.{ℕ, zero, suc, ◌+◌, ◌-◌, ◌≤◌, ◌<◌}
-use mathlib.Core.Path.{◌≡◌, refl, ap, ◌∙◌}
+use mathlib.Core.Path.{◌≡◌, refl, ap}
 use mathlib.Core.Bool.{Bool, true, false, ◌&&◌, cond, true≢false}
 use native.Mathlib.Omega.{arith}
 use lib.Dec.{leb, ltb}
 use borrow.Author.Tests.{leb-true, ltb-true}
 use Rattle.laws.specs.Counting.{first_from}
-use Rattle.laws.proofs.Counting.{search_between}
 use Rattle.meter_series.specs.Series.{is_recorded}
 use Rattle.meter_gaps.specs.Filling.{start_of, end_of, plus, total_of, neighbours, mean_of, in_month, average_of, fill_of, fill_from, or_else, filled}
 use Rattle.meter_series.specs.declared.Value.{Value}

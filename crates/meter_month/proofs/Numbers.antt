@@ -9,7 +9,7 @@ use Rattle.refusals.specs.Refusal.{month_order}
 use Rattle.refusals.specs.declared.Refusal.{Refusal}
 use Rattle.meter_hour.specs.declared.{Hour.Hour, Kind.Kind, Kind.TheVariants.CubicMetres, Kind.TheVariants.CubicFeet}
 use Rattle.meter_hour.specs.Hour.{hour_at, whole_efficiency}
-use Rattle.meter_feet.specs.Feet.{hour_at as feetHourAt}
+use Rattle.meter_feet.specs.Feet.{hour_at as feet_hour_at}
 use Rattle.meter_month.specs.Month.{are_hours, are_feet_hours, first_refused, hours_of, month_of, feet_month_of}
 use Rattle.meter_month.specs.declared.MonthAnswer.{MonthAnswer, TheVariants.Destroyed, TheVariants.Refused}
 
@@ -39,4 +39,4 @@ unfolding feet_month_of
 feet_number_listed flows contents temperatures pressures states efficiency refusal e =
     subst Listed e
     (either Listed (not (are_feet_hours (length flows) (length contents) (length temperatures) (length pressures) (length states))) (Memᴰ.head refl)
-    (hours_listed CubicFeet efficiency states (feetHourAt flows contents temperatures pressures states)))
+    (hours_listed CubicFeet efficiency states (feet_hour_at flows contents temperatures pressures states)))

@@ -10,7 +10,7 @@ use Rattle.meter_series.specs.declared.Value.{Value}
 use Rattle.meter_gaps.specs.Filling.{filled}
 use Rattle.meter_hour.specs.Hour.{hour_at, is_refused, flow_of, content_of, hour_of, whole_efficiency}
 use Rattle.meter_hour.specs.declared.{Hour.Hour, Kind.Kind, Kind.TheVariants.CubicMetres, Kind.TheVariants.CubicFeet}
-use Rattle.meter_feet.specs.Feet.{hour_at as feetHourAt}
+use Rattle.meter_feet.specs.Feet.{hour_at as feet_hour_at}
 use Rattle.meter_month.specs.declared.MonthAnswer.{MonthAnswer, TheVariants.Destroyed, TheVariants.Refused}
 
 -- the sum over n hours, the k-th of which is hour k - 1, with these states, flows and contents as recorded, and flows and contents after filling
@@ -65,4 +65,4 @@ month_of flows contents states efficiency =
 unfoldable pub feet_month_of : List Float → List Float → List Float → List Float → List ℕ → ℕ → MonthAnswer
 feet_month_of flows contents temperatures pressures states efficiency =
     cond (not (are_feet_hours (length flows) (length contents) (length temperatures) (length pressures) (length states))) (Refused (refusal no_month 0))
-    (hours_of CubicFeet efficiency states (feetHourAt flows contents temperatures pressures states))
+    (hours_of CubicFeet efficiency states (feet_hour_at flows contents temperatures pressures states))

@@ -1,6 +1,6 @@
 -- `meter_reading::is_between` meets its contract, by what `Comparisons` says of the two comparisons.
 -- Assumes nothing.
-use Rattle.meter_reading.proofs.Comparisons.{castable, second, failed}
+use Rattle.meter_reading.proofs.Comparisons.{second, failed}
 use Rattle.meter_reading.proofs.is_between.Goals as goal
 
 pub returns-then-x-least : goal.returns-then-x-least
