@@ -9,9 +9,10 @@ ghost use Rattle.program_input.specs.Got.{Room};
 ghost use Rattle.meter_bytes.specs.Format.{longest_bytes};
 ghost use Rattle.month.specs.Input.{Comes};
 
-use libc::STDOUT_FILENO;
 use meter_month::MonthAnswer;
 use program_input::Got;
+use std::io;
+use std::io::Read;
 
 mod text;
 
@@ -25,21 +26,21 @@ enum Outcome {
     Failed,
 }
 
-fn main() {
+fn main(rt: HostRuntime) -> io::Result<()> {
     let mut buffer = [0u8; BUFFER];
-    let outcome = state_input(&mut buffer);
+    let outcome = state_input(&mut rt.reader(), &mut buffer);
     match outcome {
-        Outcome::Stated(answer) => print(answer),
-        Outcome::Failed => os::fail(b"standard input"),
+        Outcome::Stated(answer) => print(&rt, answer),
+        Outcome::Failed => Err(io::Error::other("standard input could not be read")),
     }
 }
 
 // The month that standard input holds, stated or refused.
-fn state_input(buffer: &mut [u8]) -> Outcome
+fn state_input<R: Read>(reader: &mut R, buffer: &mut [u8]) -> Outcome
     requires { longest_bytes < length buffer.old }
     ensures { Comes (length buffer.old) result }
 {
-    let got = read_input(buffer);
+    let got = read_input(reader, buffer);
     match got {
         Got::Bytes(count) => Outcome::Stated(meter_bytes::stated(&buffer[..count])),
         Got::Failed => Outcome::Failed,
@@ -47,12 +48,12 @@ fn state_input(buffer: &mut [u8]) -> Outcome
 }
 
 // How many bytes were read up to the input's end or the buffer's, or that a read failed.
-fn read_input(buffer: &mut [u8]) -> Got
+fn read_input<R: Read>(reader: &mut R, buffer: &mut [u8]) -> Got
     ensures { Room result (length buffer.new) }
 {
     let mut held: usize = 0;
     while held < buffer.len() {
-        let more = program_input::read_more(buffer, held);
+        let more = program_input::read_more(reader, buffer, held);
         let Got::Bytes(count) = more else {
             return Got::Failed;
         };
@@ -64,10 +65,8 @@ fn read_input(buffer: &mut [u8]) -> Got
     Got::Bytes(held)
 }
 
-fn print(answer: MonthAnswer) {
+fn print(rt: &impl Print, answer: MonthAnswer) -> io::Result<()> {
     let mut page = [0u8; text::TEXT_BYTES];
     let end = text::lay_answer(answer, &mut page);
-    if !io::write_all(STDOUT_FILENO, &page[..end]) {
-        os::fail(b"standard output");
-    }
+    rt.write_all(&page[..end])
 }

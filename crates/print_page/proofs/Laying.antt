@@ -1,12 +1,12 @@
 -- Texts laid one after the other are laid as one: the second starts where the first ends, and neither changes another byte. Assumes nothing.
 use mathlib.Core.Path.{◌≡◌, refl, sym, ap, ◌∙◌}
-use mathlib.Core.List.{List, [], ◌∷◌, ◌++◌, append_assoc, append-nil}
+use mathlib.Core.List.{List, [], ◌∷◌, ◌++◌, append_assoc}
 use Prim.Native.Nat.{ℕ, suc, ◌+◌, ◌-◌, ◌≤◌, ◌<◌}
 use native.Mathlib.Numerals.{add-one}
 use native.Mathlib.Omega.{arith}
 use borrow.Rule.Slice.PartMut.{put_mid}
-use lib.ListN.{length, take, drop, set, length-append, length-take, length-drop, drop_of_length-le}
-use lib.Seq.{take_at, take-length, length-take-le, drop-drop, drop-append-add, set_split, append_snoc}
+use lib.ListN.{length, take, drop, set, length-append, length-take, length-drop}
+use lib.Seq.{take_at, length-take-le, drop-drop, drop-append-add, set_split, append_snoc}
 use Rattle.print_page.specs.Page.{laid, Lays}
 
 pub laid_length : (page : List ℕ) (at : ℕ) (text : List ℕ) → at + length text ≤ length page → length (laid page at text) ≡ length page
@@ -47,15 +47,10 @@ laid_none page = refl
 
 -- a part of the page that a copied text fills
 pub copied :
-    (page filled text : List ℕ) (at : ℕ) →
-    filled ≡ take (length text) text ++ drop (length text) (take (at + length text - at) (drop at page)) →
-    put_mid at (at + length text - at) page filled ≡ laid page at text
+    (page filled text : List ℕ) (at : ℕ) → filled ≡ text → put_mid at (at + length text - at) page filled ≡ laid page at text
 unfolding laid
-copied page filled text at e =
+copied page filled text at whole =
     let d : at + length text - at ≡ length text = omega arith in
-    let none : drop (length text) (take (at + length text - at) (drop at page)) ≡ [] =
-    drop_of_length-le (take (at + length text - at) (drop at page)) {i = length text} (simp length-take (omega arith)) in
-    let whole : filled ≡ text = e ∙ rw none (append-nil (take (length text) text) ∙ take-length text) in
     rw (whole, d) (rw (drop-drop, append_assoc) refl)
 
 -- one byte

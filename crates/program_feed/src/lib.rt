@@ -12,6 +12,7 @@ use book::Posted;
 use program_input::Got;
 use record_table::RECORD;
 use refusals::Refusal;
+use std::io::Read;
 
 // How the reading ended: with the input's end, all records taken; at a refusal; or with a read that failed.
 #[derive(Clone, Copy)]
@@ -30,7 +31,7 @@ enum Fed {
 
 // Posts standard input to a book, block by block, until it ends or a record is refused. The loop ends without a
 // count of its turns: each record that is taken fills a slot, and the number of slots is fixed.
-pub fn post_input(book: &mut [u8], block: &mut [u8]) -> Ending
+pub fn post_input<R: Read>(reader: &mut R, book: &mut [u8], block: &mut [u8]) -> Ending
     requires valid { Valid book.old }
     requires record_bytes_in_bounds { record_bytes ≤ length block.old }
     ensures comes { Comes book.old result book.new }
@@ -38,7 +39,7 @@ pub fn post_input(book: &mut [u8], block: &mut [u8]) -> Ending
 {
     let mut held = 0;
     loop {
-        let Got::Bytes(count) = program_input::read_more(block, held) else {
+        let Got::Bytes(count) = program_input::read_more(reader, block, held) else {
             return Ending::Failed;
         };
         if count == 0 {

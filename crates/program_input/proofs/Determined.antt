@@ -1,8 +1,13 @@
--- What a read gives is the system's, and no contract can say it. What the contract tells of it is one: the bytes that were held before stay.
--- Assumes nothing.
+-- What a read gives is the system's, and no contract can say it. What the contract tells of it is one, whatever the reader: the bytes that were held before
+-- stay. Assumes nothing.
+use denote.Param.Laws.{Laws}
+use denote.RattleType.{RattleType}
 use lib.ListN.{take}
+use mir.Syntax.{Dict}
+use Rattle.std.specs.declared.io.traits.Read.{Ghosts}
 use Rattle.laws.proofs.Determined.{OneTold, one}
 use Rattle.program_input.proofs.read_more.Reads as ReadMore
 
-pub read_more_one : OneTold ReadMore.Learnt (λ κ a x s. take a.1.0 s.0.now)
-read_more_one κ a x y s t p q = one p.1 q.1
+module _ (R : RattleType) (laws : Laws R) (ghosts : Ghosts R.Denot) (methods : Dict) where
+  pub read_more_one : OneTold (ReadMore.Learnt R laws ghosts methods) (λ κ a x s. take a.1.1.0 s.1.0.now)
+  read_more_one κ a x y s t p q = one p.1 q.1

@@ -8,8 +8,9 @@ ghost use Rattle.book.specs.Book.{book_bytes};
 ghost use Rattle.print_years.specs.Page.{page_bytes};
 ghost use Rattle.years.specs.Input.{Comes};
 
-use libc::STDOUT_FILENO;
 use program_feed::Ending;
+use std::io;
+use std::io::Read;
 
 // How many bytes are read at a time, at most: 4,096 records.
 const BLOCK: usize = 65_536;
@@ -21,27 +22,32 @@ enum Outcome {
     Failed,
 }
 
-fn main() {
+fn main(rt: HostRuntime) -> io::Result<()> {
     let mut book = [0u8; book::BYTES];
     let mut block = [0u8; BLOCK];
     let mut page = [0u8; print_years::PAGE_BYTES];
-    let outcome = lay_input(&mut book, &mut block, &mut page);
+    let outcome = lay_input(&mut rt.reader(), &mut book, &mut block, &mut page);
     match outcome {
-        Outcome::Laid(end) => print(&page[..end]),
-        Outcome::Failed => os::fail(b"standard input"),
+        Outcome::Laid(end) => print(&rt, &page[..end]),
+        Outcome::Failed => Err(io::Error::other("standard input could not be read")),
     }
 }
 
 // Lays what is printed for standard input: the years of the book that its records make, or the refusal that ended the reading. A read that fails never
 // passes for the end of the input: nothing is laid then.
-fn lay_input(book: &mut [u8], block: &mut [u8], page: &mut [u8]) -> Outcome
+fn lay_input<R: Read>(
+    reader: &mut R,
+    book: &mut [u8],
+    block: &mut [u8],
+    page: &mut [u8],
+) -> Outcome
     requires book_len { length book.old ≡ book_bytes }
     requires record_bytes_in_bounds { record_bytes ≤ length block.old }
     requires page_bytes_in_bounds { page_bytes ≤ length page.old }
     ensures { Comes page.old result page.new }
 {
     book::empty(book);
-    let ending = program_feed::post_input(book, block);
+    let ending = program_feed::post_input(reader, book, block);
     match ending {
         Ending::Ended => Outcome::Laid(print_years::lay_years(book, page)),
         Ending::Refused(refusal) => Outcome::Laid(print_refusal::lay_refusal(page, 0, refusal)),
@@ -49,8 +55,6 @@ fn lay_input(book: &mut [u8], block: &mut [u8], page: &mut [u8]) -> Outcome
     }
 }
 
-fn print(text: &[u8]) {
-    if !io::write_all(STDOUT_FILENO, text) {
-        os::fail(b"standard output");
-    }
+fn print(rt: &impl Print, text: &[u8]) -> io::Result<()> {
+    rt.write_all(text)
 }

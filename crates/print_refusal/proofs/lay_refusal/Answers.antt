@@ -1,0 +1,19 @@
+-- Its three texts are laid one after the other. Assumes nothing.
+use native.Mathlib.Omega.{arith}
+use Rattle.print_refusal.specs.Text.{refusal_text}
+use Rattle.print_page.proofs.Laying.{joined}
+use Rattle.print_refusal.proofs.Lengths.{refusal_length}
+use Rattle.print_refusal.proofs.lay_refusal.Goals as goal
+
+pub lay_figure-numbered-requires : goal.lay_figure-numbered-requires
+lay_figure-numbered-requires c = omega (arith, refusal_length c.args.refusal)
+
+pub lay_figure-placed-requires : goal.lay_figure-placed-requires
+lay_figure-placed-requires c = omega (arith, refusal_length c.args.refusal)
+
+pub lay_word-requires : goal.lay_word-requires
+lay_word-requires c = omega (arith, refusal_length c.args.refusal)
+
+pub returns : goal.returns
+unfolding refusal_text
+returns c = joined (joined c.lay_figure-numbered.ensures c.lay_figure-placed.ensures (omega arith)) c.lay_word.ensures (omega arith)
