@@ -1,5 +1,5 @@
-/* The C face of the proved program: link target/staticlib/libcabinet.a, which
- * `rt staticlib cabinet` writes. docs/LINKING.md is its guide.
+/* The C face of the proved program: link crates/cabinet/out/libcabinet.a, which
+ * `rt lib` in crates/cabinet writes. docs/LINKING.md is its guide.
  *
  * No function allocates, keeps anything between calls, or writes anywhere but
  * into the book or the memory that it is lent. Each one always returns.

@@ -6,16 +6,18 @@ use std::process::{Command, Stdio};
 
 use crate::cases::{Claim, Program};
 
-/// The proved programs, and the words that start one on this machine.
+/// The proved programs, each in its crate's folder out/, and the words that start
+/// one on this machine.
 pub struct Proved {
     pub started_by: Vec<String>,
-    pub folder: PathBuf,
+    pub crates: PathBuf,
 }
 
 impl Proved {
     /// Runs a proved program. It has to end well and say nothing on standard error.
     pub fn output(&self, program: Program, input: &[u8]) -> Result<Vec<u8>, String> {
-        let path = self.folder.join(program.name());
+        let name = program.name();
+        let path = self.crates.join(name).join("out").join(name);
         let mut words = self.started_by.iter().map(Into::into).chain([path]);
         let first = words.next().expect("a program is a word at least");
         let failed = |error: std::io::Error| format!("{}: {error}", first.display());
@@ -37,7 +39,7 @@ impl Proved {
             Ok(output.stdout)
         } else {
             let told = String::from_utf8_lossy(&output.stderr);
-            Err(format!("{}: {}, {told}", program.name(), output.status))
+            Err(format!("{name}: {}, {told}", output.status))
         }
     }
 }

@@ -46,7 +46,7 @@ fn run(farm: &Path, kept: &Path, started_by: &[String]) -> Result<(), String> {
     let cases: Vec<&Case> = groups.iter().flat_map(|group| &group.cases).collect();
     let proved = Proved {
         started_by: started_by.to_vec(),
-        folder: root().join("target").join("bin"),
+        crates: root().join("crates"),
     };
     let outputs = outputs(&proved, &cases)?;
     let faults = differing(&cases, &outputs)?;

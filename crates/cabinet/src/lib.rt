@@ -5,8 +5,8 @@
 ghost use Rattle.std.specs.Prelude.{◌≡◌};
 ghost use Rattle.book.specs.Book.{answer_of, book_after};
 ghost use Rattle.book.specs.Valid.{Valid};
-ghost use Rattle.year.specs.Answer.{answer_of as yearAnswerOf};
-ghost use Rattle.meter_month.specs.Month.{month_of as meterMonthOf, feet_month_of};
+ghost use Rattle.year.specs.Answer.{answer_of as year_answer_of};
+ghost use Rattle.meter_month.specs.Month.{month_of as meter_month_of, feet_month_of};
 ghost use Rattle.meter_series.specs.Series.{amount};
 ghost use Rattle.meter_feet.specs.Feet.{recorded_of};
 ghost use Rattle.meter_reading.specs.Exact.{litres_of, hundredths_of};
@@ -114,7 +114,7 @@ pub extern "C" fn cabinet_post(book: &mut [u8], posted: &[u8]) -> CabinetPosted
 #[unsafe(no_mangle)]
 pub extern "C" fn cabinet_year(book: &[u8], year: u64) -> CabinetYear
     requires { Valid book.now }
-    ensures { result ≡ year_of (yearAnswerOf book.now year) }
+    ensures { result ≡ year_of (year_answer_of book.now year) }
 {
     match year::year(book, year) {
         Answer::Stated(figures) => stated(figures),
@@ -173,7 +173,7 @@ pub extern "C" fn cabinet_month(
     states: &[u8],
     efficiency: u32,
 ) -> CabinetMonth
-    ensures { result ≡ month_of (meterMonthOf flows.now contents.now states.now efficiency) }
+    ensures { result ≡ month_of (meter_month_of flows.now contents.now states.now efficiency) }
 {
     metered(meter_month::month(flows, contents, states, efficiency))
 }

@@ -48,7 +48,7 @@ pub held : (n : ℕ) → n < sums_most → to_z w64 n ≡ pos n
 held n small = to_z_pos w64 {n = n} (omega arith)
 
 back : (z : ℤ) → mag z < 2 ^ 62 → to_z w64 (of_z w64 z) ≡ z
-back z small = to_z-of_z (sfits_of (omega arith))
+back z small = to_z-of_z {w = w64} (sfits_of (omega arith))
 
 pub read_back : {x : ℤ} (z : ℤ) → x ≡ z → mag z < 2 ^ 62 → to_z w64 (of_z w64 x) ≡ z
 read_back z is small = ap (λ (y : ℤ). to_z w64 (of_z w64 y)) is ∙ back z small

@@ -28,7 +28,7 @@ module _ (less more : Totals) (a b factor : ℕ) (enters : a ≤ b) (small : fac
   unfolding with_of outcome_of
   with_more drained =
       let grows = left_more factor (a + less.standing.0.0) (b + more.standing.0.0) small (omega arith) in
-      elim drained [ true ↦ omega arith | false ↦ omega arith ]
+      elim drained as (λ v. More (with_of less (at factor v a)) (with_of more (at factor v b))) [ true ↦ omega arith | false ↦ omega arith ]
 
 -- from two standings, of which the first is no more than the second
 module _ (less more : ℕ → Month) (low high : Standing) (stands : low.0.0 ≤ high.0.0) where

@@ -1,0 +1,68 @@
+-- `year_heads::of_category` meets its contract: the sum of the months before the one that the loop has come to.
+-- Assumes nothing.
+use Prim.Native.Nat.{ℕ, ◌+◌, ◌-◌, ◌≤◌}
+use mathlib.Core.Path.{ap, ◌∙◌, ◌≡◌}
+use native.Mathlib.Omega.{arith}
+use Rattle.laws.proofs.Counting.{sum_more, sum_most, sum_none}
+use Rattle.laws.specs.Counting.{sum}
+use Rattle.calendar.specs.Days.{months_in_year}
+use Rattle.year_months.specs.Series.{months_before}
+use Rattle.year_heads.specs.Heads.{heads_of, head_at}
+use Rattle.year_heads.proofs.Ranges.{head_most}
+use Rattle.year_heads.proofs.of_category.Goals as goal
+
+pub months_before-before-requires : goal.months_before-before-requires
+months_before-before-requires c = c.requires.in_period
+
+pub loop-month-init : goal.loop-month-init
+loop-month-init c = (omega arith, omega arith, c.months_before-before.ensures, sum_none _)
+
+pub overflow_add-before : goal.overflow_add-before
+overflow_add-before c =
+    omega (arith, c.loop-month.invariant.2, c.requires.in_period.high)
+
+pub head-heads-requires-clause-valid : goal.head-heads-requires-clause-valid
+head-heads-requires-clause-valid c =
+    c.requires.valid
+
+pub head-heads-requires-clause-category_le_categories : goal.head-heads-requires-clause-category_le_categories
+head-heads-requires-clause-category_le_categories c =
+    (c.requires.category_le_categories, omega (arith, c.loop-month.invariant.2, c.requires.in_period.high))
+
+pub overflow_add-heads : goal.overflow_add-heads
+overflow_add-heads c =
+    let loop = c.loop-month in
+    let book = c.args.book.now in
+    let before = months_before c.args.year in
+    let each : ℕ → ℕ = λ m. head_at book c.args.category (before + m) in
+    let months : loop.month - 1 ≤ 11 = omega arith in
+    omega (
+      arith,
+      loop.invariant.3,
+      sum_most each 100000 (loop.month - 1)
+          (λ m low high. head_most book c.requires.valid c.args.category (before + m) c.requires.category_le_categories (omega (arith, c.requires.in_period.high))),
+      c.head-heads.ensures,
+      head_most book c.requires.valid c.args.category (c.months_before-before.result + loop.month) c.requires.category_le_categories
+          (omega (arith, loop.invariant.2, c.requires.in_period.high)),
+    )
+
+pub overflow_step-month : goal.overflow_step-month
+overflow_step-month c = omega arith
+
+pub loop-month-smaller : goal.loop-month-smaller
+loop-month-smaller c = omega arith
+
+pub loop-month-preserved : goal.loop-month-preserved
+loop-month-preserved c =
+    let loop = c.loop-month in (
+      omega arith,
+      omega arith,
+      loop.invariant.2,
+      sum_more _ loop.month (omega arith) loop.invariant.3 (c.head-heads.ensures ∙ rw loop.invariant.2),
+    )
+
+pub returns : goal.returns
+unfolding heads_of
+returns c =
+    let end : c.loop-month.month - 1 ≡ months_in_year = omega arith in
+    c.loop-month.invariant.3 ∙ ap (λ (n : ℕ). sum n (λ m. head_at c.args.book.now c.args.category (months_before c.args.year + m))) end

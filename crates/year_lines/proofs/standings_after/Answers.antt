@@ -1,0 +1,64 @@
+-- `year_lines::standings_after` meets its contract: the lines before the one that the loop has come to are renewed.
+-- Assumes nothing.
+use Prim.Native.Nat.{◌+◌, ◌-◌, ◌≤◌}
+use mathlib.Core.Path.{sym}
+use native.Mathlib.Omega.{arith}
+use borrow.Author.Rules.{rules}
+use Rattle.record_table.specs.Table.{lines}
+use Rattle.year_lines.proofs.Carrying.{Renewed, renewed_all, renewed_more, renewed_none}
+use Rattle.year_lines.proofs.standings_after.Goals as goal
+
+pub loop-line-init : goal.loop-line-init
+loop-line-init c =
+    (omega arith, omega arith, renewed_none c.args.book.now c.args.earlier c.requires.standings)
+
+pub overflow_sub-from : goal.overflow_sub-from
+overflow_sub-from c = omega arith
+
+pub offset_bounds-standings-line : goal.offset_bounds-standings-line
+offset_bounds-standings-line c = omega arith
+
+pub bounds-standings-line : goal.bounds-standings-line
+bounds-standings-line c = omega arith
+
+pub slice_bounds-line_hands_on-end : goal.slice_bounds-line_hands_on-end
+slice_bounds-line_hands_on-end c = sym c.by_category-heads.ensures.long
+
+pub slice_bounds-line_hands_on-end-in-loop-line : goal.slice_bounds-line_hands_on-end-in-loop-line
+slice_bounds-line_hands_on-end-in-loop-line c = sym c.days-days.ensures.long
+
+pub slice_bounds-line_hands_on-end-in-loop-line-2 : goal.slice_bounds-line_hands_on-end-in-loop-line-2
+slice_bounds-line_hands_on-end-in-loop-line-2 c = sym c.factors-factors.ensures.long
+
+pub line_hands_on-requires : goal.line_hands_on-requires
+line_hands_on-requires c =
+    let loop = c.loop-line in
+    let left = loop.invariant.2.left loop.line (omega arith) (omega arith) in record { valid = c.requires.valid; in_period = c.requires.in_period; line_le_lines = omega arith; handed = left; holds_heads = c.by_category-heads.ensures; holds_year = c.days-days.ensures; holds_year_2 = c.factors-factors.ensures }
+
+pub overflow_sub-standings : goal.overflow_sub-standings
+overflow_sub-standings c = omega arith
+
+pub offset_bounds-standings-line-in-loop-line : goal.offset_bounds-standings-line-in-loop-line
+offset_bounds-standings-line-in-loop-line c = omega arith
+
+pub bounds-standings-line-in-loop-line : goal.bounds-standings-line-in-loop-line
+bounds-standings-line-in-loop-line c = omega arith
+
+pub overflow_step-line : goal.overflow_step-line
+overflow_step-line c = omega arith
+
+pub loop-line-smaller : goal.loop-line-smaller
+loop-line-smaller c = omega arith
+
+pub loop-line-preserved : goal.loop-line-preserved
+loop-line-preserved c =
+    let loop = c.loop-line in
+    (
+      omega arith,
+      omega arith,
+      renewed_more c.args.book.now c.args.earlier loop.line (omega arith) (omega arith) c.line_hands_on.ensures loop.invariant.2,
+    )
+
+pub returns : goal.returns
+returns c =
+    renewed_all c.args.book.now c.args.earlier (omega arith) c.loop-line.invariant.2

@@ -1,0 +1,32 @@
+-- `year_lines::standings_before` meets its contract: before each year stands what the years before it handed on.
+-- Assumes nothing.
+use Prim.Native.Nat.{◌+◌, ◌-◌, ◌≤◌}
+use mathlib.Core.Path.{◌≡◌}
+use native.Mathlib.Omega.{arith}
+use borrow.Author.Rules.{rules}
+use Rattle.year_lines.specs.Asks.{Standings}
+use Rattle.year_lines.proofs.Carrying.{none_handed}
+use Rattle.year_lines.proofs.standings_before.Goals as goal
+
+pub loop-earlier-init : goal.loop-earlier-init
+loop-earlier-init c = (omega arith, c.requires.in_period.low, none_handed _ c.empty-empty.ensures)
+
+pub standings_after-handed_on-requires : goal.standings_after-handed_on-requires
+standings_after-handed_on-requires c =
+    let loop = c.loop-earlier in
+    record { valid = c.requires.valid; in_period = record { low = omega arith; high = omega (arith, c.requires.in_period.high) }; standings = loop.invariant.2 }
+
+pub loop-earlier-smaller : goal.loop-earlier-smaller
+loop-earlier-smaller c = omega arith
+
+pub loop-earlier-preserved : goal.loop-earlier-preserved
+loop-earlier-preserved c =
+    let earlier = c.loop-earlier.earlier in
+    let next : earlier ≡ earlier + 1 - 1 = omega arith in
+    (omega arith, omega arith, rw next at c.standings_after-handed_on.ensures)
+
+pub returns : goal.returns
+returns c =
+    let loop = c.loop-earlier in
+    let all : loop.earlier ≡ c.args.year = omega arith in
+    rw (← all) loop.invariant.2

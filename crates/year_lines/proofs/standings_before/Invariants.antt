@@ -1,0 +1,15 @@
+-- `year_lines::standings_before` meets its contract: before each year stands what the years before it handed on.
+-- Assumes nothing.
+use Prim.Native.Nat.{◌+◌, ◌-◌, ◌≤◌}
+use mathlib.Core.Path.{◌≡◌}
+use native.Mathlib.Omega.{arith}
+use borrow.Author.Rules.{rules}
+use Rattle.year_lines.specs.Asks.{Standings}
+use Rattle.year_lines.proofs.Carrying.{none_handed}
+use Rattle.year_lines.proofs.standings_before.Given as goal
+
+abbrev pub invariant-loop-earlier : goal.invariant-loop-earlier
+invariant-loop-earlier l = (1 ≤ l.earlier) × (l.earlier ≤ l.year) × Standings l.book (l.earlier - 1) l.standings
+
+abbrev pub decreases-loop-earlier : goal.decreases-loop-earlier
+decreases-loop-earlier l = l.year - l.earlier
