@@ -18,7 +18,7 @@ use Rattle.book.specs.declared.Posted.TheVariants.{Taken, Refused}
 use Rattle.print_refusal.specs.Text.{refusal_text}
 use Rattle.program_feed.specs.declared.Ending.{Ending}
 use Rattle.program_feed.specs.declared.Ending.TheVariants.{Ended, Refused as EndingRefused, Failed}
-use Rattle.program_feed.specs.Input.{book_of, ending_by, ending_of, Comes as FeedComes, unread as feed-unread, read as feed-read}
+use Rattle.program_feed.specs.Input.{book_of, ending_by, ending_of, Comes as FeedComes, unread as feed_unread, read as feed_read}
 use Rattle.program_feed.proofs.Posting.{after, stays, parts}
 use Rattle.print_page.specs.Page.{Lays}
 use Rattle.print_page.proofs.Laying.{within}
@@ -40,8 +40,8 @@ record Printed (text : List ℕ) : Type 0 where
 
 came : {start book : List ℕ} {ending : Ending} → start ≡ empty_book → FeedComes start ending book → Whole ending → Printed (ending_text ending book)
 unfolding output
-came s (feed-unread input b) whole = absurd whole
-came {start} {book} {ending} s (feed-read input e b) whole =
+came s (feed_unread input b) whole = absurd whole
+came {start} {book} {ending} s (feed_read input e b) whole =
     record {
       input = input;
       is =
