@@ -26,7 +26,7 @@ use Rattle.meter_gaps.specs.Filling.{filled}
 use Rattle.meter_hour.specs.Hour.{recorded_of, hour_at, grams_in, hour_of}
 use Rattle.meter_hour.specs.declared.Kind.TheVariants.{CubicMetres, CubicFeet}
 use Rattle.meter_feet.specs.Feet as Feet
-use Rattle.meter_feet.specs.Feet.{corrected_of, flow_in, content_in, hour_at as feetHourAt}
+use Rattle.meter_feet.specs.Feet.{corrected_of, flow_in, content_in, hour_at as feet_hour_at}
 use Rattle.meter_month.specs.Month.{grams_of, destroyed_of, metered_of}
 
 -- table solids 1000, mass 6000, share 10,000, by the sum of a year's heads, in a month counted from January 2011
@@ -67,7 +67,7 @@ hour efficiency = metered_of CubicMetres efficiency (0 ∷ []) (hour_at (nearest
 -- an hour in cubic feet by itself at content 60.0, with its flow, temperature and pressure
 abbrev pub feet_hour : Float → Float → Float → ℕ
 feet_hour flow temperature pressure =
-    metered_of CubicFeet 10000 (0 ∷ []) (feetHourAt (flow ∷ []) (nearest 60 1 ∷ []) (temperature ∷ []) (pressure ∷ []) (0 ∷ []))
+    metered_of CubicFeet 10000 (0 ∷ []) (feet_hour_at (flow ∷ []) (nearest 60 1 ∷ []) (temperature ∷ []) (pressure ∷ []) (0 ∷ []))
 
 pub record Starred : Type 0 where
   pub enters_31_days : herd 1 ≡ solids 14880000
@@ -94,7 +94,7 @@ pub record Starred : Type 0 where
   pub hour_at_9800 : hour 9800 ≡ 39984
   pub content_60_1 : hundredths_of (nearest 601 10) ≡ Whole 6009
   -- in cubic feet (02, (iii)): at 520 degrees and 1 atm, at 2.5 atm, and at 519.99 degrees, which in f32 are 51,998 hundredths
-  pub feet_hour_lem : feet_hour (nearest 100 1) (nearest 520 1) (nearest 1 1) ≡ 1152
+  pub feet_hour_destroyed : feet_hour (nearest 100 1) (nearest 520 1) (nearest 1 1) ≡ 1152
   pub feet_hour_at_2_5_atm : feet_hour (nearest 100 1) (nearest 520 1) (nearest 25 10) ≡ 2880
   pub feet_hour_at_519_99_degrees : feet_hour (nearest 400000 1) (nearest 51999 100) (nearest 1 1) ≡ 4609185
 
@@ -132,7 +132,7 @@ unfolding entered_of days_of gone_of length_of lengths_of february_of leap_of su
 spread = record { in_january_2011 = refl; in_january_2012 = refl }
 
 pub starred : Starred
-unfolding entered_of outcome_of days_of gone_of length_of lengths_of february_of leap_of factor_of ruled_of summed_of denominator added subtracted b0_rule_of metered_of destroyed_of grams_of sum hour_of grams_in amount hour_at recorded_of reading_of feetHourAt Feet.recorded_of flow_in content_in corrected_of filled scaled_of is_between times_down round
+unfolding entered_of outcome_of days_of gone_of length_of lengths_of february_of leap_of factor_of ruled_of summed_of denominator added subtracted b0_rule_of metered_of destroyed_of grams_of sum hour_of grams_in amount hour_at recorded_of reading_of feet_hour_at Feet.recorded_of flow_in content_in corrected_of filled scaled_of is_between times_down round
 starred =
     record {
       enters_31_days = refl;
@@ -157,7 +157,7 @@ starred =
       hour_destroyed = refl;
       hour_at_9800 = refl;
       content_60_1 = refl;
-      feet_hour_lem = refl;
+      feet_hour_destroyed = refl;
       feet_hour_at_2_5_atm = refl;
       feet_hour_at_519_99_degrees = refl;
     }
