@@ -35,12 +35,7 @@ fn main(rt: HostRuntime) -> io::Result<()> {
 
 // Lays what is printed for standard input: the years of the book that its records make, or the refusal that ended the reading. A read that fails never
 // passes for the end of the input: nothing is laid then.
-fn lay_input<R: Read>(
-    reader: &mut R,
-    book: &mut [u8],
-    block: &mut [u8],
-    page: &mut [u8],
-) -> Outcome
+fn lay_input<R: Read>(reader: &mut R, book: &mut [u8], block: &mut [u8], page: &mut [u8]) -> Outcome
     requires book_len { length book.old ≡ book_bytes }
     requires record_bytes_in_bounds { record_bytes ≤ length block.old }
     requires page_bytes_in_bounds { page_bytes ≤ length page.old }
