@@ -59,6 +59,7 @@ fn february(year: u64) -> u64
     if leap(year) { 29 } else { 28 }
 }
 
+#[tactic(auto, unfolding(crate::specs::Days::leap_of))]
 fn leap(year: u64) -> bool
     ensures { result ≡ leap_of year }
 {

@@ -31,10 +31,10 @@ module _ (factor a b whole short : ℕ) (small : factor ≤ million) (e : whole 
       )
 
 -- Of more, more degrades and more is left.
-pub left-more :
+pub left_more :
     (factor a b : ℕ) → factor ≤ million → a ≤ b →
     (share_of a factor million ≤ share_of b factor million) × (left a factor ≤ left b factor)
-left-more factor a b small more =
+left_more factor a b small more =
     let gap = le_dest more in
     omega (
       arith,

@@ -66,6 +66,7 @@ impl Standing {
 
     // What is available degrades by the factor. The rest is removed if the line was drained, and else
     // carried on: each gram goes one way.
+    #[tactic(auto, unfolding(crate::specs::Month::outcome_of))]
     pub fn month(self, month: Month) -> Outcome
         requires { (available_of self month < grams_most) × (month.factor ≤ million) }
         ensures { result ≡ outcome_of self month }

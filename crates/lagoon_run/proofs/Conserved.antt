@@ -19,11 +19,11 @@ either : (drained : Bool) (left : ℕ) → cond drained left 0 + cond drained 0 
 either true left = omega arith
 either false left = omega arith
 
-pub month-conserved :
+pub month_conserved :
     (standing : Standing) (month : Month) → month.factor ≤ million →
     (outcome_of standing month).degraded.0 + (outcome_of standing month).removed.0 + (outcome_of standing month).next.0.0 ≡ available_of standing month
 unfolding outcome_of
-month-conserved standing month small =
+month_conserved standing month small =
     omega (arith, either month.drained (left_of standing month), degraded_le (available_of standing month) month.factor small)
 
 -- the same of an outcome that a call handed back
@@ -31,35 +31,35 @@ pub told :
     (standing : Standing) (month : Month) {outcome : Outcome} →
     outcome ≡ outcome_of standing month → month.factor ≤ million →
     outcome.degraded.0 + outcome.removed.0 + outcome.next.0.0 ≡ available_of standing month
-told standing month is small = rw is (month-conserved standing month small)
+told standing month is small = rw is (month_conserved standing month small)
 
 -- from any standing
 abbrev pub ConservedFrom : Standing → Totals → Type 0
 ConservedFrom standing totals =
     totals.entered.0 + standing.0.0 ≡ totals.degraded.0 + totals.removed.0 + totals.standing.0.0
 
-with-conserved :
+with_conserved :
     (standing : Standing) (totals : Totals) (month : Month) → month.factor ≤ million →
     ConservedFrom standing totals → ConservedFrom standing (with_of totals month)
 unfolding with_of
-with-conserved standing totals month small kept = omega (arith, month-conserved totals.standing month small)
+with_conserved standing totals month small kept = omega (arith, month_conserved totals.standing month small)
 
 module _ (standing : Standing) (months : ℕ → Month) where
   pub conserved : (n : ℕ) → Through n (λ m. (months m).factor ≤ million) → ConservedFrom standing (run_from standing months n)
   unfolding run_from
   conserved zero small = omega arith
   conserved (suc n) small =
-      with-conserved standing (run_from standing months n) (months (suc n)) (small (suc n) (omega arith) (omega arith))
+      with_conserved standing (run_from standing months n) (months (suc n)) (small (suc n) (omega arith) (omega arith))
       (conserved n (λ m low high. small m low (omega arith)))
 
-  pub entered-at-most :
+  pub entered_at_most :
       (most n : ℕ) → Through n (λ m. (months m).entered.0 ≤ most) → (run_from standing months n).entered.0 ≤ n * most
   unfolding run_from with_of
-  entered-at-most most zero each = omega arith
-  entered-at-most most (suc n) each =
+  entered_at_most most zero each = omega arith
+  entered_at_most most (suc n) each =
       omega (
         arith,
         each (suc n) (omega arith) (omega arith),
-        entered-at-most most n (λ m low high. each m low (omega arith)),
+        entered_at_most most n (λ m low high. each m low (omega arith)),
         suc-mul n most,
       )

@@ -30,14 +30,15 @@ pub record Beside (whole first second : Totals) (n : ℕ) : Type 0 where
 
 -- one month, whose factor and drain mark are the same for all three
 module _ (whole first second : Totals) (n e a b factor : ℕ) (adds : a + b ≡ e) (small : factor ≤ million) (kept : Beside whole first second n) where
-  with-beside :
+  with_beside :
       (drained : Bool) →
       Beside (with_of whole (at factor drained e)) (with_of first (at factor drained a)) (with_of second (at factor drained b)) (suc n)
   unfolding with_of outcome_of
-  with-beside drained =
+  with_beside drained =
       let gap = le_dest kept.carried in
       let split = left_split factor (a + first.standing.0.0) (b + second.standing.0.0) (e + whole.standing.0.0) gap.0 small (omega arith) in
-      elim drained [ true ↦ omega arith | false ↦ omega arith ]
+      elim drained as (λ d. Beside (with_of whole (at factor d e)) (with_of first (at factor d a)) (with_of second (at factor d b)) (suc n))
+      [ true ↦ omega arith | false ↦ omega arith ]
 
 -- from any standings of which the parts' are together so many grams more than the whole's
 module _ (whole first second : ℕ → Month) (from from-1 from-2 : Standing) (more : ℕ) (stands : from-1.0.0 + from-2.0.0 ≡ from.0.0 + more) where
@@ -49,16 +50,16 @@ module _ (whole first second : ℕ → Month) (from from-1 from-2 : Standing) (m
   beside (suc n) adds small =
       let now = adds (suc n) (omega arith) (omega arith) in
       rw (add-suc more n, shared (first (suc n)) (whole (suc n)) now.first_same, shared (second (suc n)) (whole (suc n)) now.second_same)
-      (with-beside (run_from from whole n) (run_from from-1 first n) (run_from from-2 second n) (more + n) (whole (suc n)).entered.0 (first (suc n)).entered.0
+      (with_beside (run_from from whole n) (run_from from-1 first n) (run_from from-2 second n) (more + n) (whole (suc n)).entered.0 (first (suc n)).entered.0
       (second (suc n)).entered.0 (whole (suc n)).factor now.entered (small (suc n) (omega arith) (omega arith))
       (beside n (λ m low high. adds m low (omega arith)) (λ m low high. small m low (omega arith)))
       (whole (suc n)).drained)
 
-pub demand-3 :
+pub demand_3 :
     (whole first second : ℕ → Month) (n : ℕ) →
     Through n (λ m. AddsUp (whole m) (first m) (second m)) →
     Through n (λ m. (whole m).factor ≤ million) → Demand3 (run_of whole n) (run_of first n) (run_of second n) n
-demand-3 whole first second n adds small =
+demand_3 whole first second n adds small =
     omega (
       arith,
       beside whole first second empty_of empty_of empty_of 0 refl n adds small,

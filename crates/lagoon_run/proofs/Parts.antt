@@ -1,4 +1,4 @@
--- Demand 3: one herd against two part herds of the same system, at the same temperatures and drain marks. What is claimed; the theorem is `demand-3` of
+-- Demand 3: one herd against two part herds of the same system, at the same temperatures and drain marks. What is claimed; the theorem is `demand_3` of
 -- Demand3.antt.
 -- Assumes nothing.
 use Prim.Native.Nat.{ℕ, ◌+◌, ◌≤◌}

@@ -17,7 +17,7 @@ use Rattle.lagoon_month.specs.Month.{available_of, outcome_of}
 use Rattle.lagoon_run.specs.Run.{start_of, with_of, run_from, months_of}
 use Rattle.lagoon_month.specs.Asks.{entered_most, grams_most}
 use Rattle.lagoon_run.specs.Asks.{RunFits}
-use Rattle.lagoon_run.proofs.Conserved.{conserved, entered-at-most}
+use Rattle.lagoon_run.proofs.Conserved.{conserved, entered_at_most}
 
 -- what a run's code asks of its totals before one month more
 pub record HasRoom (totals : Totals) (month : Month) : Type 0 where
@@ -43,7 +43,7 @@ module _ (standing : Standing) (entered factors : List ℕ) (drained : List Bool
         fits.entry (suc i - 1) (omega arith),
         fits.factor (suc i - 1) (omega arith),
         conserved standing months i (λ m low high. fits.factor (m - 1) (omega arith)),
-        entered-at-most standing months entered_most i (λ m low high. fits.entry (m - 1) (omega arith)),
+        entered_at_most standing months entered_most i (λ m low high. fits.entry (m - 1) (omega arith)),
       )
 
   -- a turn of the loop, whose totals count from the standing of those that it started with

@@ -1,7 +1,6 @@
 // The refusals: the table's numbers by name, and what is given where something is refused.
 #![tactic(auto)]
 
-
 // A number of the table, and the place that goes with it. The place stands first, where what a record is judged to do has its slot: so both come in one
 // register, and no answer of posting goes through memory.
 #[derive(Clone, Copy)]

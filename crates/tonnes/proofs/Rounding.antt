@@ -56,10 +56,10 @@ pub net_up : (z : ℤ) → lt_z (pos 500000) (rem_z z (pos 1000000)) ≡ true �
 net_up (pos a) h = ap pos (omega (arith, ltb-true 500000 (a % 1000000) h))
 net_up (negsuc a) h = absurd (neg_not_above 500000 (suc a % 1000000) h)
 
-pub net-down :
+pub net_down :
     (z : ℤ) → le_z (rem_z z (pos 1000000)) (negsuc 499999) ≡ true → quot_z z (pos 1000000) -ℤ pos 1 ≡ net_of z
-net-down (pos a) h = absurd (false≢true h)
-net-down (negsuc a) h =
+net_down (pos a) h = absurd (false≢true h)
+net_down (negsuc a) h =
     let l = neg_below 499999 (suc a % 1000000) h in
     one_less (suc a / 1000000) ∙ rw (lt-ltb 499999 (suc a) (omega arith)) (ap negsuc (omega arith))
 
@@ -67,8 +67,8 @@ neg_same : (a q : ℕ) → q ≡ suc a / 1000000 → suc a % 1000000 ≤ 499999 
 neg_same a zero e l = rw (le-ltb 499999 (suc a) (omega arith)) (ap pos (omega arith))
 neg_same a (suc q) e l = rw (lt-ltb 499999 (suc a) (omega arith)) (ap negsuc (omega arith))
 
-pub net-same :
+pub net_same :
     (z : ℤ) → lt_z (pos 500000) (rem_z z (pos 1000000)) ≡ false →
     le_z (rem_z z (pos 1000000)) (negsuc 499999) ≡ false → quot_z z (pos 1000000) ≡ net_of z
-net-same (pos a) h k = ap pos (omega (arith, ltb-false 500000 (a % 1000000) h))
-net-same (negsuc a) h k = neg_same a (suc a / 1000000) refl (neg_not_below 499999 (suc a % 1000000) k)
+net_same (pos a) h k = ap pos (omega (arith, ltb-false 500000 (a % 1000000) h))
+net_same (negsuc a) h k = neg_same a (suc a / 1000000) refl (neg_not_below 499999 (suc a % 1000000) k)

@@ -1,6 +1,5 @@
 -- `lagoon_factor::entry` meets its contract: the array of the source is the table's list, whose entries are what the definition's terms make. Assumes nothing.
 use mathlib.Core.Path.{◌∙◌}
-use borrow.Author.Rules.{rules}
 use Rattle.lagoon_factor.proofs.Table.{factors, entry_of}
 use Rattle.lagoon_factor.proofs.Entries.{entry_right}
 use Rattle.lagoon_factor.proofs.entry.Goals as goal

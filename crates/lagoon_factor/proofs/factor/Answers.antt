@@ -2,7 +2,6 @@
 use mathlib.Core.Path.{◌≡◌, ◌∙◌, ap}
 use mathlib.Core.Bool.{Bool}
 use Prim.Native.Nat.{ℕ}
-use native.Mathlib.Omega.{arith}
 use lib.IntN.{ℤ, pos, nat_abs}
 use lib.Signed.{lt_z}
 use mir.Syntax.{w16}
@@ -10,7 +9,6 @@ use mir.Val.{SFits, to_z, of_z}
 use mir.Facts.{to_z-of_z}
 use Rattle.lagoon_factor.specs.Rule.{cold_end, hot_end}
 use Rattle.lagoon_factor.specs.Factor.{ruled_of, factor_of}
-use Rattle.lagoon_factor.proofs.Ends.{Inside, inside}
 use Rattle.lagoon_factor.proofs.factor.Goals as goal
 
 -- the temperature as the machine holds it
