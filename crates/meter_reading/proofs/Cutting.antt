@@ -36,17 +36,17 @@ pattern n lo hi =
     let k = z - 53 in
     let q = n / 2 ^ k in
     let b = 0 + k * 2 ^ 52 + q in
-    let z-lo : 1074 < z = pow_lt_back 1074 z (lt_of_le_of_lt lo (size-lt n)) in
-    let z-hi : z ≤ 1127 = size-le n 1127 (lt_of_le_of_lt hi (pow-lt {i = 1126} {j = 1127} (omega arith))) in
-    let q-lo : 2 ^ 52 ≤ q = (le-div_iff_mul-le (pow_pos k)).1 (le_trans (le_of_eq (sym (pow-add 2 52 k))) (size_reaches n (52 + k) (all z z-lo))) in
-    let f : b / 2 ^ 52 ≡ suc k = field k q q-lo (kept-lt 53 n) in
+    let z_low : 1074 < z = pow_lt_back 1074 z (lt_of_le_of_lt lo (size-lt n)) in
+    let z_high : z ≤ 1127 = size-le n 1127 (lt_of_le_of_lt hi (pow-lt {i = 1126} {j = 1127} (omega arith))) in
+    let q_low : 2 ^ 52 ≤ q = (le-div_iff_mul-le (pow_pos k)).1 (le_trans (le_of_eq (sym (pow-add 2 52 k))) (size_reaches n (52 + k) (all z z_low))) in
+    let f : b / 2 ^ 52 ≡ suc k = field k q q_low (kept-lt 53 n) in
     let by : 1075 - b / 2 ^ 52 ≡ 1074 - k = less (b / 2 ^ 52) k f in (
-      bound (b / 2 ^ 52) z f z-hi,
-      near (b / 2 ^ 52) z f z-lo,
-      ap (λ (i : ℕ). i / 2 ^ (1075 - b / 2 ^ 52)) (digits_are b ∙ digits k q q-lo (kept-lt 53 n))
+      bound (b / 2 ^ 52) z f z_high,
+      near (b / 2 ^ 52) z f z_low,
+      ap (λ (i : ℕ). i / 2 ^ (1075 - b / 2 ^ 52)) (digits_are b ∙ digits k q q_low (kept-lt 53 n))
           ∙ ap (λ (i : ℕ). q / 2 ^ i) by
           ∙ shr-shr n k (1074 - k)
-          ∙ ap (λ (i : ℕ). n / 2 ^ i) (join z z-hi),
+          ∙ ap (λ (i : ℕ). n / 2 ^ i) (join z z_high),
     )
   where
     all : (z : ℕ) → 1074 < z → 52 + (z - 53) < z
@@ -82,9 +82,9 @@ cut_fin m e lo hi =
     let a = m * up e in
     let d = down e in
     let n = a * 2 ^ 1074 / d in
-    let n-lo : 2 ^ 1074 ≤ n = (le-div_iff_mul-le (down_pos e)).1 (le_trans (le_of_eq (mul_comm (2 ^ 1074) d)) (mul-le-mul_right (2 ^ 1074) lo)) in
-    let n-hi : n ≤ 2 ^ 1126 = div-le_of_le-mul d (le_trans (mul-le-mul_right (2 ^ 1074) hi) (le_of_eq (mul_right_comm (2 ^ 52) d (2 ^ 1074) ∙ mul_comm (2 ^ 1126) d))) in
-    let p = pattern n n-lo n-hi in
+    let n_low : 2 ^ 1074 ≤ n = (le-div_iff_mul-le (down_pos e)).1 (le_trans (le_of_eq (mul_comm (2 ^ 1074) d)) (mul-le-mul_right (2 ^ 1074) lo)) in
+    let n_high : n ≤ 2 ^ 1126 = div-le_of_le-mul d (le_trans (mul-le-mul_right (2 ^ 1074) hi) (le_of_eq (mul_right_comm (2 ^ 52) d (2 ^ 1074) ∙ mul_comm (2 ^ 1126) d))) in
+    let p = pattern n n_low n_high in
     (tt, p.0, p.1, p.2 ∙ whole_units a d (down_pos e) ∙ ap (λ (z : ℕ). z / d) (sym (one-mul a)))
 
 pub cut : (x : Float) → T (is_between 0 (2 ^ 52) x) → T (le one x) → Cut x (to_bits binary64 x)

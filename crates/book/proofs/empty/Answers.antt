@@ -1,11 +1,9 @@
 -- `book::empty` meets its contract: the bytes passed are 0. Assumes nothing.
-use mathlib.Core.Path.{◌≡◌, ◌∙◌}
-use lib.ListN.{length, length-set}
-use Prim.Native.Nat.{◌≤◌, ◌-◌}
+use mathlib.Core.Path.{◌∙◌}
+use lib.ListN.{length-set}
 use native.Mathlib.Omega.{arith}
 use borrow.Author.Rules.{rules}
-use Rattle.book.specs.Book.{book_bytes}
-use Rattle.book.proofs.Cleared.{Zero, one_more, all_zero}
+use Rattle.book.proofs.Cleared.{one_more, all_zero}
 use Rattle.book.proofs.empty.Goals as goal
 
 pub loop-i-init : goal.loop-i-init

@@ -1,11 +1,9 @@
 -- `book::empty` meets its contract: the bytes passed are 0. Assumes nothing.
-use mathlib.Core.Path.{◌≡◌, ◌∙◌}
-use lib.ListN.{length, length-set}
+use mathlib.Core.Path.{◌≡◌}
+use lib.ListN.{length}
 use Prim.Native.Nat.{◌≤◌, ◌-◌}
-use native.Mathlib.Omega.{arith}
-use borrow.Author.Rules.{rules}
 use Rattle.book.specs.Book.{book_bytes}
-use Rattle.book.proofs.Cleared.{Zero, one_more, all_zero}
+use Rattle.book.proofs.Cleared.{Zero}
 use Rattle.book.proofs.empty.Given as goal
 
 abbrev pub invariant-loop-i : goal.invariant-loop-i

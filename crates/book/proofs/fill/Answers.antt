@@ -1,8 +1,6 @@
 -- `book::fill` meets its contract: the test picks the case. Assumes nothing.
 use mathlib.Core.Path.{◌∙◌}
-use native.Mathlib.Omega.{arith}
 use borrow.Author.Tests.{eq-eqb, ne_eqb}
-use borrow.Author.Rules.{rules}
 use Rattle.book.specs.Book.{free, answer_by}
 use Rattle.book.proofs.fill.Goals as goal
 

@@ -1,6 +1,5 @@
 -- `book::post` meets its contract: by what the record alone decides. Assumes nothing.
 use mathlib.Core.Path.{sym, ap, ◌∙◌}
-use borrow.Author.Rules.{rules}
 use Rattle.record_judge.proofs.Keys.{put_below, emptied_below}
 use Rattle.book.specs.Book.{answer_by, book_by, answer_of, book_after}
 use Rattle.book.proofs.post.Goals as goal

@@ -1,10 +1,10 @@
 -- `book::post_all` meets its contract: what is posted and what is to come make what all of it makes. Assumes nothing.
-use Prim.Native.Nat.{ℕ, ◌≤◌, ◌-◌}
-use lib.ListN.{length, take, drop}
+use Prim.Native.Nat.{ℕ, ◌-◌}
+use lib.ListN.{take, drop}
 use mathlib.Core.Path.{sym, ap, ◌∙◌}
 use native.Mathlib.Omega.{arith}
 use borrow.Author.Rules.{rules}
-use Rattle.book.proofs.Runs.{Going, start, next_record, onwards, stopped, ended}
+use Rattle.book.proofs.Runs.{start, next_record, onwards, stopped, ended}
 use Rattle.book.proofs.post_all.Goals as goal
 
 pub loop-at-init : goal.loop-at-init

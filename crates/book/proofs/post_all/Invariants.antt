@@ -1,10 +1,7 @@
 -- `book::post_all` meets its contract: what is posted and what is to come make what all of it makes. Assumes nothing.
-use Prim.Native.Nat.{ℕ, ◌≤◌, ◌-◌}
-use lib.ListN.{length, take, drop}
-use mathlib.Core.Path.{sym, ap, ◌∙◌}
-use native.Mathlib.Omega.{arith}
-use borrow.Author.Rules.{rules}
-use Rattle.book.proofs.Runs.{Going, start, next_record, onwards, stopped, ended}
+use Prim.Native.Nat.{◌≤◌, ◌-◌}
+use lib.ListN.{length}
+use Rattle.book.proofs.Runs.{Going}
 use Rattle.book.proofs.post_all.Given as goal
 
 abbrev pub invariant-loop-at : goal.invariant-loop-at

@@ -2,7 +2,6 @@
 use mathlib.Core.Path.{◌≡◌, sym, ap, ◌∙◌}
 use mathlib.Core.List.{List}
 use Prim.Native.Nat.{ℕ}
-use borrow.Author.Rules.{rules}
 use Rattle.record_judge.specs.Record.{stored_of}
 use Rattle.record_judge.specs.declared.Judged.TheVariants.{Put}
 use Rattle.record_judge.proofs.Taken.{put_long}

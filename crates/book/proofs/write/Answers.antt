@@ -1,5 +1,4 @@
 -- `book::write` meets its contract: the copy covers the slot. Assumes nothing.
-use borrow.Author.Rules.{rules}
 use Rattle.book.proofs.Slot.{written}
 use Rattle.book.proofs.write.Goals as goal
 

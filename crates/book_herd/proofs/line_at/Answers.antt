@@ -1,5 +1,4 @@
 -- `book_herd::line_at` meets its contract: each number is that of its field. Assumes nothing.
-use borrow.Author.Rules.{rules}
 use Rattle.book_herd.proofs.line_at.Goals as goal
 
 pub returns : goal.returns

@@ -1,7 +1,5 @@
 -- `book_slots::destroyed` meets its contract: the slot of its key lies inside the book. Assumes nothing.
-use mathlib.Core.Path.{◌∙◌}
 use native.Mathlib.Omega.{arith}
-use borrow.Author.Rules.{rules}
 use lib.Dec.{lit≤}
 use Rattle.record_table.specs.Table.{mt}
 use Rattle.book_slots.proofs.Inside.{inside}

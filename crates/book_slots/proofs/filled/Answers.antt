@@ -1,6 +1,5 @@
 -- `book_slots::filled` meets its contract: it is the test of the first byte. Assumes nothing.
 use mathlib.Core.Path.{refl}
-use borrow.Author.Rules.{rules}
 use Rattle.book.specs.Book.{free}
 use Rattle.book_slots.proofs.filled.Goals as goal
 

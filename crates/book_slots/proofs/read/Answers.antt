@@ -2,7 +2,6 @@
 use mathlib.Core.Path.{sym, ap, ◌∙◌}
 use Rattle.book_slots.specs.Field.{seen_at}
 use Rattle.book_slots.specs.declared.Seen.TheVariants.{Value}
-use borrow.Author.Rules.{rules}
 use Rattle.book_slots.proofs.read.Goals as goal
 
 pub returns-then-filled : goal.returns-then-filled

@@ -1,6 +1,4 @@
 -- `book_slots::year_field` meets its contract: the slot of its key lies inside the book. Assumes nothing.
-use mathlib.Core.Path.{◌∙◌}
-use borrow.Author.Rules.{rules}
 use lib.Dec.{lit≤}
 use Rattle.record_table.specs.Table.{yr}
 use Rattle.book_slots.proofs.Inside.{inside}

@@ -1,12 +1,7 @@
 -- `number_bytes::number`: v is the number of the bytes from at + i on. Assumes nothing.
-use mathlib.Core.Path.{◌≡◌, sym, ap, ◌∙◌, subst}
-use Prim.Native.Nat.{ℕ, ◌+◌, ◌*◌, ◌-◌, ◌^◌, ◌≤◌, ◌<◌}
-use native.Mathlib.Nat.{sub_self}
-use native.Mathlib.Omega.{arith}
-use borrow.Author.Rules.{rules}
-use lib.ListN.{get_or}
+use mathlib.Core.Path.{◌≡◌}
+use Prim.Native.Nat.{◌+◌, ◌-◌, ◌≤◌}
 use Rattle.number_bytes.specs.Number.{number_at}
-use Rattle.number_bytes.proofs.Numbers.{number_step, number_bound, number_fits}
 use Rattle.number_bytes.proofs.number.Given as goal
 
 abbrev pub invariant-loop-i : goal.invariant-loop-i

@@ -1,6 +1,5 @@
 -- `number_bytes::signed` meets its contract. Assumes nothing.
-use Rattle.number_bytes.proofs.Sixteen.{as_it_is, fits32, fits16, taken_off}
-use borrow.Author.Rules.{rules}
+use Rattle.number_bytes.proofs.Sixteen.{as_it_is, taken_off}
 use Rattle.number_bytes.proofs.signed.Goals as goal
 
 pub returns-then-bits-lt32768 : goal.returns-then-bits-lt32768

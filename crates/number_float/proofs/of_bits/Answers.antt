@@ -22,15 +22,15 @@ only_nan (inf s) h = absurd (false≢true h)
 only_nan (fin s m e) h = absurd (false≢true h)
 
 -- the code's test is `nan_bits`
-is-test : (n : ℕ) → nan_bits binary32 n ≡ ltb 0x7f80_0000 (bit_and n 0x7fff_ffff)
-is-test n = nan_bits_above binary32 n ∙ ap (λ (z : ℕ). ltb 0x7f80_0000 z) (sym (and_mask n 31))
+is_test : (n : ℕ) → nan_bits binary32 n ≡ ltb 0x7f80_0000 (bit_and n 0x7fff_ffff)
+is_test n = nan_bits_above binary32 n ∙ ap (λ (z : ℕ). ltb 0x7f80_0000 z) (sym (and_mask n 31))
 
 pub float_from_bits-result : goal.float_from_bits-result
 float_from_bits-result c =
     let n = c.args.bits in
-    subst (λ (b : Bool). T (not b)) (sym (is-test n ∙ le-ltb 0x7f80_0000 (bit_and n 0x7fff_ffff) c.if-bits-gt-INFINITE.false)) tt
+    subst (λ (b : Bool). T (not b)) (sym (is_test n ∙ le-ltb 0x7f80_0000 (bit_and n 0x7fff_ffff) c.if-bits-gt-INFINITE.false)) tt
 
 pub returns-then-bits-gt-INFINITE : goal.returns-then-bits-gt-INFINITE
 returns-then-bits-gt-INFINITE c =
     let n = c.args.bits in
-    zero_by_zero ∙ sym (only_nan (of_bits binary32 n) (sym (nan_bits_is binary32 n) ∙ is-test n ∙ lt-ltb 0x7f80_0000 (bit_and n 0x7fff_ffff) c.if-bits-gt-INFINITE.true))
+    zero_by_zero ∙ sym (only_nan (of_bits binary32 n) (sym (nan_bits_is binary32 n) ∙ is_test n ∙ lt-ltb 0x7f80_0000 (bit_and n 0x7fff_ffff) c.if-bits-gt-INFINITE.true))

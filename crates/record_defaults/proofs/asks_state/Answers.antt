@@ -1,6 +1,5 @@
 -- `record_defaults::asks_state` meets its contract: Table A.3's entry picks the case. Assumes nothing.
 use mathlib.Core.Path.{sym, ◌∙◌}
-use borrow.Author.Rules.{rules}
 use Rattle.record_defaults.specs.Tables.{goes_by_state, asks_state}
 use Rattle.record_defaults.proofs.asks_state.Goals as goal
 

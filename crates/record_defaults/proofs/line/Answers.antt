@@ -1,5 +1,4 @@
 -- `record_defaults::line` meets its contract: its sixteen bytes are those of the definition, one by one. Assumes nothing.
-use borrow.Author.Rules.{rules}
 use Rattle.record_defaults.specs.StandsFor.{stands_for}
 use Rattle.record_defaults.proofs.line.Goals as goal
 

@@ -1,6 +1,5 @@
 -- `record_defaults::solids_entry` meets its contract: the array of the source is the column of Table A.3. Assumes nothing.
 use mathlib.Core.Path.{refl}
-use borrow.Author.Rules.{rules}
 use Rattle.record_defaults.specs.Tables.{solids, solids_entry}
 use Rattle.record_defaults.proofs.solids_entry.Goals as goal
 

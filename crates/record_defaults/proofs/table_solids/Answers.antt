@@ -1,6 +1,5 @@
 -- `record_defaults::table_solids` meets its contract: Table A.3's entry picks the case. Assumes nothing.
 use mathlib.Core.Path.{sym, ◌∙◌}
-use borrow.Author.Rules.{rules}
 use Rattle.record_defaults.specs.Tables.{solids_by, solids_of}
 use Rattle.record_defaults.proofs.Inside.{column_below, asked}
 use Rattle.record_defaults.proofs.table_solids.Goals as goal

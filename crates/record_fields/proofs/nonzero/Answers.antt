@@ -1,7 +1,7 @@
 -- `record_fields::nonzero` meets its contract: the bytes passed are 0. Assumes nothing.
 use Rattle.record_fields.proofs.Scan.{nonzero_step}
 use mathlib.Core.Path.{◌≡◌, sym, ap, ◌∙◌}
-use Prim.Native.Nat.{ℕ, ◌+◌, ◌-◌, ◌≤◌}
+use Prim.Native.Nat.{ℕ, ◌+◌, ◌-◌}
 use native.Mathlib.Nat.{sub-zero, add-zero}
 use native.Mathlib.Omega.{arith}
 use borrow.Author.Rules.{rules}

@@ -1,11 +1,6 @@
 -- `record_fields::nonzero` meets its contract: the bytes passed are 0. Assumes nothing.
-use Rattle.record_fields.proofs.Scan.{nonzero_step}
-use mathlib.Core.Path.{◌≡◌, sym, ap, ◌∙◌}
-use Prim.Native.Nat.{ℕ, ◌+◌, ◌-◌, ◌≤◌}
-use native.Mathlib.Nat.{sub-zero, add-zero}
-use native.Mathlib.Omega.{arith}
-use borrow.Author.Rules.{rules}
-use borrow.Author.Tests.{eq-eqb, ne_eqb}
+use mathlib.Core.Path.{◌≡◌}
+use Prim.Native.Nat.{◌+◌, ◌-◌, ◌≤◌}
 use Rattle.record_fields.specs.Entry.{nonzero_at}
 use Rattle.record_fields.proofs.nonzero.Given as goal
 

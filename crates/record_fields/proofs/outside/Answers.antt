@@ -1,6 +1,5 @@
 -- `record_fields::outside` meets its contract: the test picks the case. Assumes nothing.
 use mathlib.Core.Path.{sym, ◌∙◌}
-use borrow.Author.Rules.{rules}
 use Rattle.record_fields.specs.Entry.{in_range, outside_at}
 use Rattle.record_fields.proofs.outside.Goals as goal
 

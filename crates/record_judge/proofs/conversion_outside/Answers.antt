@@ -1,6 +1,5 @@
 -- `record_judge::conversion_outside` meets its contract: the system tells the range. Assumes nothing.
 use mathlib.Core.Path.{◌∙◌}
-use borrow.Author.Rules.{rules}
 use Rattle.record_fields.specs.Entry.{in_range, outside_at}
 use Rattle.record_judge.proofs.conversion_outside.Goals as goal
 

@@ -1,6 +1,5 @@
 -- `record_judge::defaults_outside` meets its contract: each field stands before those after it. Assumes nothing.
 use mathlib.Core.Path.{◌∙◌}
-use borrow.Author.Rules.{rules}
 use Rattle.record_judge.specs.Record.{outside_in}
 use Rattle.record_judge.specs.Keyed.{livestock_outside}
 use Rattle.record_judge.proofs.defaults_outside.Goals as goal

@@ -1,5 +1,4 @@
 -- `record_judge::is_defaults` meets its contract: the letters tell. Assumes nothing.
-use borrow.Author.Rules.{rules}
 use Rattle.record_judge.specs.Defaults.{is_defaults}
 use Rattle.record_judge.proofs.is_defaults.Goals as goal
 

@@ -2,7 +2,6 @@
 use borrow.Author.Tests.{ne_eqb}
 use mathlib.Core.Path.{◌≡◌, refl, sym, ◌∙◌}
 use Prim.Native.Nat.{ℕ}
-use borrow.Author.Rules.{rules}
 use lib.Dec.{eqb, lit≤}
 use mathlib.Core.Bool.{false}
 use Rattle.record_judge.specs.Record.{row_in}

@@ -1,6 +1,5 @@
 -- `record_judge::judge_mt` meets its contract: the places found are those of its row. Assumes nothing.
 use mathlib.Core.Path.{◌∙◌}
-use borrow.Author.Rules.{rules}
 use Rattle.record_table.specs.Slot.{count, total, slot_of}
 use Rattle.record_judge.specs.Record.{nonzero_in, outside_in, key_in, key_of, judged_as}
 use Rattle.record_judge.specs.Keyed.{key_outside, keyed}

@@ -1,6 +1,5 @@
 -- `record_judge::keyed_by_two` meets its contract: the key's bytes stand before what comes after. Assumes nothing.
 use mathlib.Core.Path.{◌∙◌}
-use borrow.Author.Rules.{rules}
 use Rattle.record_judge.specs.Record.{key_in}
 use Rattle.record_judge.specs.Keyed.{key_outside, keyed}
 use Rattle.record_judge.proofs.keyed_by_two.Goals as goal

@@ -1,10 +1,9 @@
 -- `record_judge::livestock_outside` meets its contract: the test of the livestock picks the case. Assumes nothing.
 use mathlib.Core.Path.{sym, ◌∙◌}
-use borrow.Author.Rules.{rules}
-use borrow.Author.Tests.{leb-true, not-true, not-false}
+use borrow.Author.Tests.{not-true, not-false}
 use Rattle.record_fields.specs.Entry.{outside_at}
 use Rattle.record_judge.specs.Keyed.{livestock_outside}
-use Rattle.record_judge.proofs.Entries.{byte_in, both}
+use Rattle.record_judge.proofs.Entries.{byte_in}
 use Rattle.record_judge.proofs.livestock_outside.Goals as goal
 
 pub returns-then-not-is_livestock : goal.returns-then-not-is_livestock

@@ -1,6 +1,5 @@
 -- `record_judge::verdict_on` meets its contract: the tests pick the case. Assumes nothing.
 use mathlib.Core.Path.{◌∙◌}
-use borrow.Author.Rules.{rules}
 use borrow.Author.Tests.{lt-ltb, le-ltb}
 use Rattle.record_judge.specs.Record.{verdict}
 use Rattle.record_judge.proofs.verdict_on.Goals as goal

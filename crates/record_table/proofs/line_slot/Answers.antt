@@ -1,5 +1,4 @@
 -- `record_table::line_slot` meets its contract: the rows before it have as many slots as its first. Assumes nothing.
-use borrow.Author.Rules.{rules}
 use Rattle.record_table.specs.Slot.{count, total, slot_of}
 use Rattle.record_table.proofs.line_slot.Goals as goal
 

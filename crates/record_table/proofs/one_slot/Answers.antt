@@ -1,6 +1,5 @@
 -- `record_table::one_slot` meets its contract. Assumes nothing.
 use native.Mathlib.Omega.{arith}
-use borrow.Author.Rules.{rules}
 use Rattle.record_table.specs.Slot.{count, index}
 use Rattle.record_table.proofs.one_slot.Goals as goal
 

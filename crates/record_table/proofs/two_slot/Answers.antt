@@ -1,8 +1,6 @@
 -- `record_table::two_slot` meets its contract: a product of two numbers below 256 is small. Assumes nothing.
-use Prim.Native.Nat.{ℕ, ◌*◌, ◌-◌, ◌≤◌, ◌<◌}
-use native.Mathlib.Nat.{mul-le-mul, mul-one}
+use native.Mathlib.Nat.{mul-one}
 use native.Mathlib.Omega.{arith}
-use borrow.Author.Rules.{rules}
 use Rattle.record_table.specs.Slot.{count, index}
 use Rattle.record_table.proofs.two_slot.Goals as goal
 

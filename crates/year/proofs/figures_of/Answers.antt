@@ -23,9 +23,9 @@ total-requires-clause-baseline_lt_sums_most c =
     let operator-small : OperatorFits c.operator_of-operator.result = subst OperatorFits (sym c.operator_of-operator.ensures)
     (operator_fits _ (operator_most c.args.book.now c.requires.valid c.args.year c.requires.in_period)) in
     rw c.sums_of-sums.ensures (omega (
-        arith,
-        (sums_most_lem c.args.book.now c.requires.valid c.args.year c.requires.in_period lines (omega arith)).baseline,
-      ))
+      arith,
+      (sums_most_lem c.args.book.now c.requires.valid c.args.year c.requires.in_period lines (omega arith)).baseline,
+    ))
 
 pub total-requires-clause-operator_fits : goal.total-requires-clause-operator_fits
 total-requires-clause-operator_fits c =

@@ -1,7 +1,6 @@
 -- `year::whole_year` meets its contract: the shares, and then the figures, since no sum passes 2^63.
 -- Assumes nothing.
 use mathlib.Core.Path.{◌∙◌}
-use borrow.Author.Rules.{rules}
 use Rattle.year.proofs.Answers.{over_is, stated_is}
 use Rattle.year.proofs.whole_year.Goals as goal
 

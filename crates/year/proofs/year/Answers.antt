@@ -3,7 +3,6 @@
 use Prim.Native.Nat.{ℕ}
 use mathlib.Core.Path.{sym, ap, ◌∙◌}
 use native.Mathlib.Omega.{arith}
-use borrow.Author.Rules.{rules}
 use Rattle.refusals.specs.Refusal.{refusal, lacking}
 use Rattle.year_months.specs.Asks.{InPeriod}
 use Rattle.year_needs.specs.Complete.{place_of}

@@ -1,9 +1,8 @@
 -- `year_credit::destroyed_in` meets its contract: the sum of the devices before the one that the loop has come to.
 -- Assumes nothing.
-use Prim.Native.Nat.{ℕ, ◌+◌, ◌-◌, ◌^◌, ◌≤◌}
+use Prim.Native.Nat.{ℕ, ◌-◌, ◌^◌, ◌≤◌}
 use mathlib.Core.Path.{ap, ◌∙◌, ◌≡◌}
 use native.Mathlib.Omega.{arith}
-use borrow.Author.Rules.{rules}
 use Rattle.laws.proofs.Counting.{sum_more, sum_most, sum_none}
 use Rattle.laws.specs.Counting.{sum}
 use Rattle.units.specs.Grams.{methane}

@@ -1,18 +1,12 @@
 -- `year_credit::destroyed_in` meets its contract: the sum of the devices before the one that the loop has come to.
 -- Assumes nothing.
-use Prim.Native.Nat.{ℕ, ◌+◌, ◌-◌, ◌^◌, ◌≤◌}
-use mathlib.Core.Path.{ap, ◌∙◌, ◌≡◌}
-use native.Mathlib.Omega.{arith}
-use borrow.Author.Rules.{rules}
-use Rattle.laws.proofs.Counting.{sum_more, sum_most, sum_none}
+use Prim.Native.Nat.{◌+◌, ◌-◌, ◌≤◌}
+use mathlib.Core.Path.{◌≡◌}
 use Rattle.laws.specs.Counting.{sum}
 use Rattle.units.specs.Grams.{methane}
-use Rattle.units.specs.declared.methane.Methane.{Methane}
 use Rattle.record_table.specs.Table.{devices}
 use Rattle.book_slots.specs.Reads.{destroyed_of}
 use Rattle.year_months.specs.Series.{amount_of}
-use Rattle.year_credit.specs.Credit.{destroyed_at}
-use Rattle.year_credit.proofs.Ranges.{destroyed_most_lem}
 use Rattle.year_credit.proofs.destroyed_in.Given as goal
 
 abbrev pub invariant-loop-device : goal.invariant-loop-device

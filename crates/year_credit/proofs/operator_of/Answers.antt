@@ -3,15 +3,12 @@
 use Prim.Native.Nat.{ℕ, ◌+◌, ◌-◌, ◌≤◌}
 use mathlib.Core.Path.{ap, ◌∙◌, ◌≡◌}
 use native.Mathlib.Omega.{arith}
-use borrow.Author.Rules.{rules}
 use Rattle.laws.proofs.Counting.{sum_none}
-use Rattle.laws.specs.Counting.{sum}
 use Rattle.units.specs.Grams.{methane, co2e}
 use Rattle.calendar.specs.Days.{months_in_year}
 use Rattle.record_table.specs.Table.{months}
 use Rattle.book_slots.specs.Reads.{project_methane_of, baseline_co2_of, project_co2_of}
 use Rattle.year_months.specs.Series.{months_before}
-use Rattle.year_credit.specs.Credit.{grams_of, destroyed_at}
 use Rattle.year_credit.proofs.Bounds.{baseline_co2_small, destroyed_fits, destroyed_more, project_methane_small, month_fits, month_more, project_co2_small}
 use Rattle.year_credit.proofs.Ranges.{baseline_co2_most, project_methane_most, project_co2_most}
 use Rattle.year_credit.proofs.operator_of.Goals as goal

@@ -2,11 +2,10 @@
 -- Assumes nothing.
 use mathlib.Core.Path.{ap, ◌∙◌, ◌≡◌}
 use native.Mathlib.Omega.{arith}
-use borrow.Author.Rules.{rules}
 use lib.IntN.{pos}
 use Rattle.units.specs.declared.co2e.Co2e.{Co2e}
 use Rattle.year_credit.specs.Credit.{metered_of, modelled_of, reduction_of}
-use Rattle.year_credit.proofs.Signs.{added_fits, lesser_is, minus_size, read_back, total_fits, total_read}
+use Rattle.year_credit.proofs.Signs.{lesser_is, minus_size, read_back, total_read}
 use Rattle.year_credit.proofs.total.Goals as goal
 
 pub returns : goal.returns

@@ -1,11 +1,8 @@
 -- `year_heads::by_category` meets its contract: after so many categories passed the array holds the sums of their heads.
 -- Assumes nothing.
-use Prim.Native.Nat.{ℕ, ◌+◌, ◌-◌, ◌≤◌}
-use mathlib.Core.Path.{ap, refl, ◌∙◌, ◌≡◌}
-use native.Mathlib.Omega.{arith}
+use Prim.Native.Nat.{ℕ, ◌-◌, ◌≤◌}
 use Rattle.record_table.specs.Table.{categories}
 use Rattle.year_months.specs.Asks.{Holds}
-use Rattle.year_months.proofs.Arrays.{array_begins, array_more, array_full}
 use Rattle.year_heads.specs.Heads.{heads_of}
 use Rattle.year_heads.proofs.by_category.Given as goal
 

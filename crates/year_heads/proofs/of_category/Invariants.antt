@@ -1,14 +1,11 @@
 -- `year_heads::of_category` meets its contract: the sum of the months before the one that the loop has come to.
 -- Assumes nothing.
-use Prim.Native.Nat.{ℕ, ◌+◌, ◌-◌, ◌≤◌}
-use mathlib.Core.Path.{ap, ◌∙◌, ◌≡◌}
-use native.Mathlib.Omega.{arith}
-use Rattle.laws.proofs.Counting.{sum_more, sum_most, sum_none}
+use Prim.Native.Nat.{◌+◌, ◌-◌, ◌≤◌}
+use mathlib.Core.Path.{◌≡◌}
 use Rattle.laws.specs.Counting.{sum}
 use Rattle.calendar.specs.Days.{months_in_year}
 use Rattle.year_months.specs.Series.{months_before}
-use Rattle.year_heads.specs.Heads.{heads_of, head_at}
-use Rattle.year_heads.proofs.Ranges.{head_most}
+use Rattle.year_heads.specs.Heads.{head_at}
 use Rattle.year_heads.proofs.of_category.Given as goal
 
 abbrev pub invariant-loop-month : goal.invariant-loop-month

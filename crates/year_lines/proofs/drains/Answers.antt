@@ -1,13 +1,8 @@
 -- `year_lines::drains` meets its contract: after so many months passed the array holds their drain marks.
 -- Assumes nothing.
-use Prim.Native.Nat.{◌+◌, ◌-◌, ◌≤◌}
-use mathlib.Core.Bool.{Bool, false}
+use mathlib.Core.Bool.{false}
 use mathlib.Core.Path.{refl}
 use native.Mathlib.Omega.{arith}
-use Rattle.calendar.specs.Days.{months_in_year}
-use Rattle.record_table.specs.Table.{months}
-use Rattle.book_herd.specs.Herd.{drained_of}
-use Rattle.year_months.specs.Asks.{Holds}
 use Rattle.year_months.proofs.Arrays.{array_begins, array_more, array_full}
 use Rattle.year_lines.proofs.drains.Goals as goal
 

@@ -2,13 +2,10 @@
 -- Assumes nothing.
 use Prim.Native.Nat.{◌+◌, ◌-◌, ◌≤◌}
 use mathlib.Core.Bool.{Bool, false}
-use mathlib.Core.Path.{refl}
-use native.Mathlib.Omega.{arith}
 use Rattle.calendar.specs.Days.{months_in_year}
 use Rattle.record_table.specs.Table.{months}
 use Rattle.book_herd.specs.Herd.{drained_of}
 use Rattle.year_months.specs.Asks.{Holds}
-use Rattle.year_months.proofs.Arrays.{array_begins, array_more, array_full}
 use Rattle.year_lines.proofs.drains.Given as goal
 
 abbrev pub invariant-loop-passed : goal.invariant-loop-passed

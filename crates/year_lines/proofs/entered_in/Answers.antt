@@ -1,6 +1,5 @@
 -- `year_lines::entered_in` meets its contract: the line's numbers are in 01's ranges, and its category has a sum of heads.
 -- Assumes nothing.
-use borrow.Author.Rules.{rules}
 use Rattle.year_lines.proofs.Entered.{entered_held, days_held}
 use Rattle.year_lines.proofs.OwnHeads.{ranged, of_category, summed, few}
 use Rattle.year_lines.proofs.entered_in.Goals as goal
@@ -20,13 +19,16 @@ entries-requires c =
     let book = c.args.book.now in
     let stands = c.requires.line_value in
     let r = ranged book c.requires.valid c.args.line c.requires.line_le_lines stands read in
-    let days = c.requires.holds_year in record { heads_le_heads_most = (
+    let days = c.requires.holds_year in record {
+      heads_le_heads_most = (
         few book c.requires.valid c.args.line c.requires.line_le_lines stands read c.args.year c.requires.in_period c.requires.holds_heads
             c.own_heads.ensures,
         r.solids,
         r.mass,
         r.share,
-      ); days_len = (days.long, days_held book c.args.year days) }
+      );
+      days_len = (days.long, days_held book c.args.year days);
+    }
 
 pub returns : goal.returns
 returns c =

@@ -1,14 +1,9 @@
 -- `year_lines::entries` meets its contract: after so many months passed the array holds what they entered.
 -- Assumes nothing.
-use Prim.Native.Nat.{ℕ, ◌+◌, ◌-◌, ◌≤◌}
-use mathlib.Core.Path.{ap, refl, ◌∙◌, ◌≡◌}
-use native.Mathlib.Omega.{arith}
-use borrow.Author.Rules.{rules}
+use Prim.Native.Nat.{ℕ, ◌-◌, ◌≤◌}
 use lib.ListN.{get_or}
-use Rattle.units.specs.declared.solids.Solids.{Solids}
 use Rattle.calendar.specs.Days.{months_in_year}
 use Rattle.year_months.specs.Asks.{Holds}
-use Rattle.year_months.proofs.Arrays.{array_begins, array_more, array_full}
 use Rattle.year_lines.specs.Lines.{entered_by}
 use Rattle.year_lines.proofs.entries.Given as goal
 

@@ -1,7 +1,6 @@
 -- `year_lines::line_hands_on` meets its contract, by the line's system: the arrays hold the year's months of an anaerobic line.
 -- Assumes nothing.
 use mathlib.Core.Path.{refl, ◌≡◌, ◌∙◌}
-use borrow.Author.Rules.{rules}
 use Rattle.book_slots.specs.declared.Seen.TheVariants.{Value}
 use Rattle.book_herd.specs.Herd.{system_of}
 use Rattle.year_lines.specs.Lines.{anaerobic}

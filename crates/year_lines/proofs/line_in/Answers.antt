@@ -2,7 +2,6 @@
 -- Assumes nothing.
 use mathlib.Core.Path.{sym, ◌≡◌, ◌∙◌}
 use native.Mathlib.Omega.{arith}
-use borrow.Author.Rules.{rules}
 use Rattle.lagoon_run.specs.Run.{year_of}
 use Rattle.book_slots.specs.declared.Seen.TheVariants.{Value}
 use Rattle.book_herd.specs.Herd.{system_of}
@@ -60,8 +59,7 @@ returns-then-system-eq-ANAEROBIC c =
 pub own_heads-requires : goal.own_heads-requires
 own_heads-requires c =
     let stood : system_of c.args.book.now c.args.line ≡ Value c.in-Value.system = sym c.system.ensures ∙ c.in-Value.is in
-    let own_ranged : LineRanged c.line_at-numbers.result = ranged c.args.book.now c.requires.valid c.args.line c.requires.line_le_lines stood c.line_at-numbers.ensures in
-    (
+    let own_ranged : LineRanged c.line_at-numbers.result = ranged c.args.book.now c.requires.valid c.args.line c.requires.line_le_lines stood c.line_at-numbers.ensures in (
       of_category c.args.book.now c.requires.valid c.args.line c.requires.line_le_lines stood c.line_at-numbers.ensures,
       own_ranged.category,
       c.requires.holds_heads.long,
@@ -71,13 +69,16 @@ pub other-requires : goal.other-requires
 other-requires c =
     let stood : system_of c.args.book.now c.args.line ≡ Value c.in-Value.system = sym c.system.ensures ∙ c.in-Value.is in
     let own_ranged : LineRanged c.line_at-numbers.result = ranged c.args.book.now c.requires.valid c.args.line c.requires.line_le_lines stood c.line_at-numbers.ensures in
-    let r = own_ranged in record { heads_le_heads_most = (
+    let r = own_ranged in record {
+      heads_le_heads_most = (
         few c.args.book.now c.requires.valid c.args.line c.requires.line_le_lines stood c.line_at-numbers.ensures c.args.year
             c.requires.in_period c.requires.holds_heads c.own_heads.ensures,
         r.solids,
         r.mass,
         r.share,
-      ); b0_bound = (r.b0, r.conversion) }
+      );
+      b0_bound = (r.b0, r.conversion);
+    }
 
 pub returns : goal.returns
 returns c =

@@ -2,8 +2,7 @@
 -- Assumes nothing.
 use mathlib.Core.Path.{◌∙◌}
 use native.Mathlib.Omega.{arith}
-use borrow.Author.Rules.{rules}
-use Rattle.lagoon_month.proofs.Entry.{two, three, four}
+use Rattle.lagoon_month.proofs.Entry.{four}
 use Rattle.year_lines.specs.Lines.{converted_of}
 use Rattle.year_lines.proofs.Bounds.{converted_most, daily_most, product_year}
 use Rattle.year_lines.proofs.other.Goals as goal
@@ -16,21 +15,19 @@ overflow_mul-daily-4 c =
     record { fits = omega (arith, daily_most c.args.heads c.args.numbers c.requires.heads_le_heads_most c.requires.b0_bound.1) }
 
 pub share-degraded-requires : goal.share-degraded-requires
-share-degraded-requires c =
-    (
-      rw c.of_grams-yearly.ensures (omega (arith, product_year c.args.heads c.args.numbers c.requires.heads_le_heads_most c.requires.b0_bound.1)),
-      omega arith,
-    )
+share-degraded-requires c = (
+  rw c.of_grams-yearly.ensures (omega (arith, product_year c.args.heads c.args.numbers c.requires.heads_le_heads_most c.requires.b0_bound.1)),
+  omega arith,
+)
 
 pub b0_rule-requires : goal.b0_rule-requires
 unfolding converted_of
-b0_rule-requires c =
-    (
-      c.requires.b0_bound.0,
-      omega arith,
-      rw (c.share-degraded.ensures, c.of_grams-yearly.ensures)
-          (omega (arith, converted_most c.args.heads c.args.numbers c.requires.heads_le_heads_most c.requires.b0_bound.1)),
-    )
+b0_rule-requires c = (
+  c.requires.b0_bound.0,
+  omega arith,
+  rw (c.share-degraded.ensures, c.of_grams-yearly.ensures)
+      (omega (arith, converted_most c.args.heads c.args.numbers c.requires.heads_le_heads_most c.requires.b0_bound.1)),
+)
 
 pub returns : goal.returns
 unfolding converted_of

@@ -1,11 +1,8 @@
 -- `year_lines::standings_after` meets its contract: the lines before the one that the loop has come to are renewed.
 -- Assumes nothing.
-use Prim.Native.Nat.{◌+◌, ◌-◌, ◌≤◌}
 use mathlib.Core.Path.{sym}
 use native.Mathlib.Omega.{arith}
-use borrow.Author.Rules.{rules}
-use Rattle.record_table.specs.Table.{lines}
-use Rattle.year_lines.proofs.Carrying.{Renewed, renewed_all, renewed_more, renewed_none}
+use Rattle.year_lines.proofs.Carrying.{renewed_all, renewed_more, renewed_none}
 use Rattle.year_lines.proofs.standings_after.Goals as goal
 
 pub loop-line-init : goal.loop-line-init
@@ -52,8 +49,7 @@ loop-line-smaller c = omega arith
 
 pub loop-line-preserved : goal.loop-line-preserved
 loop-line-preserved c =
-    let loop = c.loop-line in
-    (
+    let loop = c.loop-line in (
       omega arith,
       omega arith,
       renewed_more c.args.book.now c.args.earlier loop.line (omega arith) (omega arith) c.line_hands_on.ensures loop.invariant.2,

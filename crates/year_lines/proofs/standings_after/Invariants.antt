@@ -1,11 +1,8 @@
 -- `year_lines::standings_after` meets its contract: the lines before the one that the loop has come to are renewed.
 -- Assumes nothing.
 use Prim.Native.Nat.{◌+◌, ◌-◌, ◌≤◌}
-use mathlib.Core.Path.{sym}
-use native.Mathlib.Omega.{arith}
-use borrow.Author.Rules.{rules}
 use Rattle.record_table.specs.Table.{lines}
-use Rattle.year_lines.proofs.Carrying.{Renewed, renewed_all, renewed_more, renewed_none}
+use Rattle.year_lines.proofs.Carrying.{Renewed}
 use Rattle.year_lines.proofs.standings_after.Given as goal
 
 abbrev pub invariant-loop-line : goal.invariant-loop-line

@@ -1,10 +1,8 @@
 -- `year_lines::standings_before` meets its contract: before each year stands what the years before it handed on.
 -- Assumes nothing.
-use Prim.Native.Nat.{◌+◌, ◌-◌, ◌≤◌}
+use Prim.Native.Nat.{◌+◌, ◌-◌}
 use mathlib.Core.Path.{◌≡◌}
 use native.Mathlib.Omega.{arith}
-use borrow.Author.Rules.{rules}
-use Rattle.year_lines.specs.Asks.{Standings}
 use Rattle.year_lines.proofs.Carrying.{none_handed}
 use Rattle.year_lines.proofs.standings_before.Goals as goal
 

@@ -1,11 +1,7 @@
 -- `year_lines::standings_before` meets its contract: before each year stands what the years before it handed on.
 -- Assumes nothing.
-use Prim.Native.Nat.{◌+◌, ◌-◌, ◌≤◌}
-use mathlib.Core.Path.{◌≡◌}
-use native.Mathlib.Omega.{arith}
-use borrow.Author.Rules.{rules}
+use Prim.Native.Nat.{◌-◌, ◌≤◌}
 use Rattle.year_lines.specs.Asks.{Standings}
-use Rattle.year_lines.proofs.Carrying.{none_handed}
 use Rattle.year_lines.proofs.standings_before.Given as goal
 
 abbrev pub invariant-loop-earlier : goal.invariant-loop-earlier

@@ -1,13 +1,9 @@
 -- `year_lines::sums_from` meets its contract: the sums of the lines before the one that the loop has come to, which stay small.
 -- Assumes nothing.
 use Prim.Native.Nat.{◌+◌, ◌-◌, ◌≤◌}
-use mathlib.Core.Path.{ap, sym, ◌∙◌, ◌≡◌}
-use native.Mathlib.Omega.{arith}
-use borrow.Author.Rules.{rules}
+use mathlib.Core.Path.{◌≡◌}
 use Rattle.record_table.specs.Table.{lines}
 use Rattle.year_lines.specs.Lines.{all, line_in, sums_over}
-use Rattle.year_lines.proofs.Bounds.{sums_fit}
-use Rattle.year_lines.proofs.BySystem.{one_line_more}
 use Rattle.year_lines.proofs.sums_from.Given as goal
 
 abbrev pub invariant-loop-line : goal.invariant-loop-line

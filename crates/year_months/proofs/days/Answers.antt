@@ -3,7 +3,6 @@
 use Prim.Native.Nat.{ℕ, ◌+◌}
 use mathlib.Core.Path.{ap, refl, ◌∙◌, ◌≡◌}
 use native.Mathlib.Omega.{arith}
-use borrow.Author.Rules.{rules}
 use Rattle.calendar.specs.Days.{days_of}
 use Rattle.book_slots.specs.Reads.{first_month_of, first_year_of}
 use Rattle.year_months.specs.Series.{amount_of, days_at}
@@ -13,10 +12,13 @@ use Rattle.year_months.proofs.days.Goals as goal
 
 pub lengths-requires : goal.lengths-requires
 lengths-requires c =
-    let book = c.args.book.now in record { first_year_bound = (
+    let book = c.args.book.now in record {
+      first_year_bound = (
         rw (c.amount-first_year.ensures, c.first_year.ensures) (first_year_most book c.requires.valid),
         rw (c.amount-first_month.ensures, c.first_month.ensures) (first_month_most book c.requires.valid),
-      ); months_in_year_bound = omega (arith, c.months_before.ensures, c.requires.in_period.low, c.requires.in_period.high) }
+      );
+      months_in_year_bound = omega (arith, c.months_before.ensures, c.requires.in_period.low, c.requires.in_period.high);
+    }
 
 pub returns : goal.returns
 unfolding days_at

@@ -1,12 +1,7 @@
 -- `year_months::factors` meets its contract: after so many months passed the array holds their factors.
 -- Assumes nothing.
-use Prim.Native.Nat.{ℕ, ◌+◌, ◌-◌, ◌≤◌}
 use mathlib.Core.Path.{ap, refl, ◌∙◌}
 use native.Mathlib.Omega.{arith}
-use borrow.Author.Rules.{rules}
-use Rattle.calendar.specs.Days.{months_in_year}
-use Rattle.record_table.specs.Table.{months}
-use Rattle.year_months.specs.Asks.{Holds}
 use Rattle.year_months.specs.Series.{factor_at, factor_by}
 use Rattle.year_months.proofs.Arrays.{array_begins, array_more, array_full}
 use Rattle.year_months.proofs.factors.Goals as goal

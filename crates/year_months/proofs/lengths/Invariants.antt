@@ -1,11 +1,8 @@
 -- `year_months::lengths` meets its contract: after so many months passed the array holds their days.
 -- Assumes nothing.
 use Prim.Native.Nat.{ℕ, ◌-◌, ◌≤◌}
-use mathlib.Core.Path.{refl}
-use native.Mathlib.Omega.{arith}
 use Rattle.calendar.specs.Days.{months_in_year, days_of}
 use Rattle.year_months.specs.Asks.{Holds}
-use Rattle.year_months.proofs.Arrays.{array_begins, array_more, array_full}
 use Rattle.year_months.proofs.lengths.Given as goal
 
 abbrev pub invariant-loop-passed : goal.invariant-loop-passed

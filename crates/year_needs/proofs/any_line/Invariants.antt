@@ -1,15 +1,11 @@
 -- `year_needs::any_line` meets its contract: the search passes each line that is not there.
 -- Assumes nothing.
 use Prim.Native.Nat.{◌+◌, ◌-◌, ◌≤◌}
-use mathlib.Core.Path.{ap, sym, ◌∙◌, ◌≡◌}
-use native.Mathlib.Omega.{arith}
-use borrow.Author.Rules.{rules}
-use Rattle.laws.proofs.Counting.{begins, none_found, one_found, passed}
+use mathlib.Core.Path.{◌≡◌}
 use Rattle.laws.specs.Counting.{first, first_from}
 use Rattle.record_table.specs.Table.{lines}
 use Rattle.book_herd.specs.Herd.{category_of}
 use Rattle.year_months.specs.Series.{filled}
-use Rattle.year_needs.specs.Complete.{any_line}
 use Rattle.year_needs.proofs.any_line.Given as goal
 
 abbrev pub invariant-loop-line : goal.invariant-loop-line

@@ -1,12 +1,9 @@
 -- `year_needs::first_lacking` meets its contract: the search passes each month that lacks nothing.
 -- Assumes nothing.
-use Prim.Native.Nat.{◌+◌, ◌-◌, ◌≤◌}
-use mathlib.Core.Path.{sym, ◌∙◌, ◌≡◌}
+use mathlib.Core.Path.{sym, ◌∙◌}
 use native.Mathlib.Omega.{arith}
 use Rattle.laws.proofs.Counting.{begins, found, none, passed}
-use Rattle.laws.specs.Counting.{first, first_from}
-use Rattle.year_months.specs.Series.{months_through}
-use Rattle.year_needs.specs.Complete.{lacking_of, lacks}
+use Rattle.year_needs.specs.Complete.{lacking_of}
 use Rattle.year_needs.proofs.first_lacking.Goals as goal
 
 pub months_through-past-requires : goal.months_through-past-requires

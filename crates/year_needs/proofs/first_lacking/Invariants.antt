@@ -1,12 +1,10 @@
 -- `year_needs::first_lacking` meets its contract: the search passes each month that lacks nothing.
 -- Assumes nothing.
 use Prim.Native.Nat.{◌+◌, ◌-◌, ◌≤◌}
-use mathlib.Core.Path.{sym, ◌∙◌, ◌≡◌}
-use native.Mathlib.Omega.{arith}
-use Rattle.laws.proofs.Counting.{begins, found, none, passed}
+use mathlib.Core.Path.{◌≡◌}
 use Rattle.laws.specs.Counting.{first, first_from}
 use Rattle.year_months.specs.Series.{months_through}
-use Rattle.year_needs.specs.Complete.{lacking_of, lacks}
+use Rattle.year_needs.specs.Complete.{lacks}
 use Rattle.year_needs.proofs.first_lacking.Given as goal
 
 abbrev pub invariant-loop-month : goal.invariant-loop-month

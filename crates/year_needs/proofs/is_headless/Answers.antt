@@ -1,12 +1,11 @@
 -- `year_needs::is_headless` meets its contract: the search passes each category that has no line, or has its head count.
 -- Assumes nothing.
-use Prim.Native.Nat.{ℕ, ◌+◌, ◌-◌, ◌≤◌, ◌<◌}
+use Prim.Native.Nat.{ℕ, ◌+◌, ◌≤◌, ◌<◌}
 use mathlib.Core.Bool.{false, ◌&&◌}
 use mathlib.Core.Path.{sym, subst, ◌∙◌, ◌≡◌}
 use native.Mathlib.Decide.{dec_lt}
 use native.Mathlib.Omega.{arith}
 use lib.ListN.{get_or}
-use Rattle.record_table.specs.Table.{categories}
 use Rattle.book_slots.specs.declared.Seen.TheVariants.{Value}
 use Rattle.year_needs.specs.Complete.{uncounted}
 use Rattle.year_needs.proofs.Lined.{headless_found, headless_none}

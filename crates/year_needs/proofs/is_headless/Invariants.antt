@@ -2,14 +2,11 @@
 -- Assumes nothing.
 use Prim.Native.Nat.{ℕ, ◌+◌, ◌-◌, ◌≤◌, ◌<◌}
 use mathlib.Core.Bool.{false, ◌&&◌}
-use mathlib.Core.Path.{sym, subst, ◌∙◌, ◌≡◌}
-use native.Mathlib.Decide.{dec_lt}
-use native.Mathlib.Omega.{arith}
+use mathlib.Core.Path.{◌≡◌}
 use lib.ListN.{get_or}
 use Rattle.record_table.specs.Table.{categories}
 use Rattle.book_slots.specs.declared.Seen.TheVariants.{Value}
 use Rattle.year_needs.specs.Complete.{uncounted}
-use Rattle.year_needs.proofs.Lined.{headless_found, headless_none}
 use Rattle.year_needs.proofs.is_headless.Given as goal
 
 abbrev pub invariant-loop-category : goal.invariant-loop-category

@@ -3,7 +3,6 @@
 use mathlib.Core.Bool.{false}
 use mathlib.Core.Path.{ap, sym, ◌∙◌, ◌≡◌}
 use native.Mathlib.Omega.{arith}
-use borrow.Author.Rules.{rules}
 use Rattle.book_slots.specs.Reads.{temperature_of}
 use Rattle.year_months.specs.Series.{filled}
 use Rattle.year_needs.specs.Complete.{headless, unmeasured}

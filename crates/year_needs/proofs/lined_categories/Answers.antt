@@ -1,12 +1,10 @@
 -- `year_needs::lined_categories` meets its contract: the flags of the lines before the one that the loop has come to.
 -- Assumes nothing.
-use Prim.Native.Nat.{◌+◌, ◌-◌, ◌≤◌}
+use Prim.Native.Nat.{◌-◌, ◌≤◌}
 use mathlib.Core.Path.{ap, ◌∙◌, ◌≡◌}
 use native.Mathlib.Omega.{arith}
-use borrow.Author.Rules.{rules}
 use Rattle.record_table.specs.Table.{lines, categories}
 use Rattle.year_months.specs.Series.{amount_of}
-use Rattle.year_needs.specs.Asks.{Lined}
 use Rattle.year_needs.proofs.Lined.{lined_more, lined_none}
 use Rattle.year_needs.proofs.Ranges.{category_amount}
 use Rattle.year_needs.proofs.lined_categories.Goals as goal

@@ -1,13 +1,11 @@
 -- `year_shares::over_shared` meets its contract: the search passes each category whose shares do not sum above the whole.
 -- Assumes nothing.
-use Prim.Native.Nat.{◌+◌, ◌-◌, ◌≤◌}
 use mathlib.Core.Path.{ap, sym, ◌∙◌, ◌≡◌}
 use native.Mathlib.Omega.{arith}
 use borrow.Author.Tests.{le-ltb, lt-ltb}
 use lib.Dec.{ltb}
 use lib.ListN.{get_or}
 use Rattle.laws.proofs.Counting.{begins, found, none, passed}
-use Rattle.laws.specs.Counting.{first, first_from}
 use Rattle.record_table.specs.Table.{categories}
 use Rattle.year_shares.specs.Shares.{over_of, shares_of, whole_share}
 use Rattle.year_shares.proofs.Sharing.{shared_all}
@@ -42,10 +40,10 @@ pub loop-category-preserved : goal.loop-category-preserved
 loop-category-preserved c =
     let shares_at : get_or c.shares-shares.result c.loop-category.category 0 ≡ shares_of c.args.book.now c.loop-category.category = shared_all c.args.book.now c.shares-shares.ensures c.loop-category.category (omega arith) in
     let loop = c.loop-category in (
-  omega arith,
-  omega arith,
-  passed categories loop.category _ loop.invariant.2 (omega arith) (ap (ltb whole_share) (sym shares_at) ∙ le-ltb _ _ c.if-shares-category-gt-WHOLE_SHARE.false),
-)
+      omega arith,
+      omega arith,
+      passed categories loop.category _ loop.invariant.2 (omega arith) (ap (ltb whole_share) (sym shares_at) ∙ le-ltb _ _ c.if-shares-category-gt-WHOLE_SHARE.false),
+    )
 
 pub overflow_add-result : goal.overflow_add-result
 overflow_add-result c = omega arith

@@ -1,16 +1,11 @@
 -- `year_shares::over_shared` meets its contract: the search passes each category whose shares do not sum above the whole.
 -- Assumes nothing.
 use Prim.Native.Nat.{◌+◌, ◌-◌, ◌≤◌}
-use mathlib.Core.Path.{ap, sym, ◌∙◌, ◌≡◌}
-use native.Mathlib.Omega.{arith}
-use borrow.Author.Tests.{le-ltb, lt-ltb}
+use mathlib.Core.Path.{◌≡◌}
 use lib.Dec.{ltb}
-use lib.ListN.{get_or}
-use Rattle.laws.proofs.Counting.{begins, found, none, passed}
 use Rattle.laws.specs.Counting.{first, first_from}
 use Rattle.record_table.specs.Table.{categories}
-use Rattle.year_shares.specs.Shares.{over_of, shares_of, whole_share}
-use Rattle.year_shares.proofs.Sharing.{shared_all}
+use Rattle.year_shares.specs.Shares.{shares_of, whole_share}
 use Rattle.year_shares.proofs.over_shared.Given as goal
 
 abbrev pub invariant-loop-category : goal.invariant-loop-category

@@ -1,10 +1,9 @@
 -- `year_shares::shares` meets its contract: the sums of the lines before the one that the loop has come to.
 -- Assumes nothing.
-use Prim.Native.Nat.{◌+◌, ◌-◌, ◌≤◌}
+use Prim.Native.Nat.{◌-◌}
 use mathlib.Core.Path.{◌≡◌}
 use native.Mathlib.Omega.{arith}
 use Rattle.record_table.specs.Table.{lines}
-use Rattle.year_shares.specs.Asks.{Shared}
 use Rattle.year_shares.proofs.Sharing.{shared_more, shared_most, shared_none}
 use Rattle.year_shares.proofs.Ranges.{ShareRanged, share_ranged}
 use Rattle.year_shares.proofs.shares.Goals as goal
