@@ -35,7 +35,7 @@ fn main(rt: HostRuntime) -> io::Result<()> {
     }
 }
 
-// The month that standard input holds, stated or refused.
+// The month that a reader gives, stated or refused.
 fn state_input<R: Read>(reader: &mut R, buffer: &mut [u8]) -> Outcome
     requires { longest_bytes < length buffer.old }
     ensures { Comes (length buffer.old) result }

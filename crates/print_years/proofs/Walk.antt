@@ -12,10 +12,10 @@ use Rattle.year.specs.declared.Answer.TheVariants.{Stated, Refused}
 use Rattle.year.specs.Answer.{answer_of}
 use Rattle.print_page.specs.Page.{Lays}
 use Rattle.print_refusal.specs.Text.{refusal_text}
-use Rattle.print_page.proofs.Laying.{joined, laid_length, laid_none}
+use Rattle.print_page.proofs.Laying.{joined, laid_none}
 use Rattle.print_year.specs.Text.{year_text}
 use Rattle.print_years.specs.Text.{answer_text, years_from, printed}
-use Rattle.print_years.specs.Page.{year_bytes, page_bytes}
+use Rattle.print_years.specs.Page.{year_bytes}
 
 -- the lines of a year and of those after it
 unfoldable pub from : List ℕ → ℕ → List ℕ
@@ -33,10 +33,6 @@ pub begin : (book page : List ℕ) → Walked book page 1 0 page
 unfolding from printed
 begin book page =
     record { first = omega arith; last = omega arith; room = omega arith; text = []; lays = record { ends = refl; page = laid_none page }; rest = refl }
-
-pub size : {book start page : List ℕ} {year at : ℕ} → Walked book start year at page → page_bytes ≤ length start → length page ≡ length start
-size {book} {start} {page} {year} {at} w h =
-    ap length w.lays.page ∙ laid_length start 0 w.text (omega (arith, w.room, w.last, w.lays.ends))
 
 one_year : (book : List ℕ) (year : ℕ) → year ≤ last_year → from book year ≡ answer_text year (answer_of book year) (from book (year + 1))
 unfolding from years_from

@@ -4,7 +4,7 @@ use mathlib.Core.List.{List, [], ◌∷◌, ◌++◌}
 use Prim.Native.Nat.{ℕ, suc, ◌+◌, ◌-◌, ◌≤◌, ◌<◌}
 use native.Mathlib.Numerals.{add-one}
 use native.Mathlib.Omega.{arith}
-use lib.ListN.{length, get_or, set, take, drop, length-append, length-take, length-drop}
+use lib.ListN.{length, get_or, set, take, drop, length-drop}
 use lib.Seq.{append_snoc, drop-cons, get_or-append-add, get_or-drop, length-take-le, set_at, take_at, take-suc}
 use Rattle.program_feed.specs.Blocks.{carried}
 
@@ -19,10 +19,6 @@ none block from = refl
 pub all : (block : List ℕ) (from to i : ℕ) → i ≡ to - from → begun block from i ≡ carried block from to
 unfolding begun carried
 all block from to i e = ap (λ (n : ℕ). take n (drop from block) ++ drop n block) e
-
-pub size : (block : List ℕ) (from i : ℕ) → from + i ≤ length block → length (begun block from i) ≡ length block
-unfolding begun
-size block from i within = simp (length-append, length-take, length-drop) (omega arith)
 
 module _ (block : List ℕ) (from i : ℕ) (within : from + i < length block) where
   long : length (take i (drop from block)) ≡ i

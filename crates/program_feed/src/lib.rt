@@ -1,4 +1,4 @@
-// Records read from standard input, posted block by block: a record that a block's end cuts is held for the next one.
+// Records read from a program's input, posted block by block: a record that a block's end cuts is held for the next one.
 #![tactic(auto)]
 
 ghost use Rattle.std.specs.Prelude.{◌≡◌, ◌-◌, ◌≤◌, length};
@@ -29,7 +29,7 @@ enum Fed {
     Refused(Refusal),
 }
 
-// Posts standard input to a book, block by block, until it ends or a record is refused. The loop ends without a
+// Posts what a reader gives to a book, block by block, until it ends or a record is refused. The loop ends without a
 // count of its turns: each record that is taken fills a slot, and the number of slots is fixed.
 pub fn post_input<R: Read>(reader: &mut R, book: &mut [u8], block: &mut [u8]) -> Ending
     requires valid { Valid book.old }

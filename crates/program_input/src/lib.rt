@@ -1,4 +1,4 @@
-// Standard input, read into lent bytes. A read that fails never passes for the end of the input.
+// A program's input, read into lent bytes. A read that fails never passes for the end of the input.
 #![tactic(auto)]
 
 ghost use Rattle.std.specs.Prelude.{◌≡◌, ◌-◌, ◌<◌, length, take};

@@ -33,7 +33,7 @@ fn main(rt: HostRuntime) -> io::Result<()> {
     }
 }
 
-// Lays what is printed for standard input: the years of the book that its records make, or the refusal that ended the reading. A read that fails never
+// Lays what is printed for what a reader gives: the years of the book that its records make, or the refusal that ended the reading. A read that fails never
 // passes for the end of the input: nothing is laid then.
 fn lay_input<R: Read>(reader: &mut R, book: &mut [u8], block: &mut [u8], page: &mut [u8]) -> Outcome
     requires book_len { length book.old ≡ book_bytes }
