@@ -10,9 +10,10 @@ ghost use Rattle.meter_bytes.specs.Format.{longest_bytes};
 ghost use Rattle.month.specs.Input.{Comes};
 
 use meter_month::MonthAnswer;
-use program_input::Got;
+use program_input::{Got, Heard};
 use std::io;
 use std::io::Read;
+use std::process::ExitCode;
 
 mod text;
 
@@ -26,12 +27,27 @@ enum Outcome {
     Failed,
 }
 
-fn main(rt: HostRuntime) -> io::Result<()> {
+// Where a read or a write fails, one line on standard error says which and why, and the status is 1.
+fn main(rt: HostRuntime) -> ExitCode {
     let mut buffer = [0u8; BUFFER];
-    let outcome = state_input(&mut rt.reader(), &mut buffer);
-    match outcome {
-        Outcome::Stated(answer) => print(&rt, answer),
-        Outcome::Failed => Err(io::Error::other("standard input could not be read")),
+    let mut input = Heard {
+        reader: rt.reader(),
+        failure: None,
+    };
+    let outcome = state_input(&mut input, &mut buffer);
+    let (what, ended) = match outcome {
+        Outcome::Stated(answer) => ("standard output", print(&rt, answer)),
+        Outcome::Failed => (
+            "standard input",
+            Err(input.failure.unwrap_or(io::Error::other("a read failed"))),
+        ),
+    };
+    match ended {
+        Ok(()) => ExitCode::SUCCESS,
+        Err(error) => {
+            let _ = eprintln!(rt; "{what}: {error}");
+            ExitCode::FAILURE
+        }
     }
 }
 

@@ -17,6 +17,26 @@ pub enum Got {
     Failed,
 }
 
+// A reader that keeps why a read of it failed, in the system's words.
+#[derive(Drop)]
+pub struct Heard<R: Read + Drop> {
+    pub reader: R,
+    pub failure: Option<io::Error>,
+}
+
+impl<R: Read + Drop> Read for Heard<R> {
+    fn read(&mut self, buf: &mut [u8]) -> io::Result<usize> {
+        match self.reader.read(buf) {
+            Ok(count) => Ok(count),
+            Err(error) => {
+                let kind = error.kind();
+                self.failure = Some(error);
+                Err(io::Error::from(kind))
+            }
+        }
+    }
+}
+
 // Reads once, to the place after the bytes that are held; where a signal interrupts the read, again.
 pub fn read_more<R: Read>(reader: &mut R, block: &mut [u8], held: usize) -> Got
     requires { held < length block.old }

@@ -9,8 +9,10 @@ ghost use Rattle.print_years.specs.Page.{page_bytes};
 ghost use Rattle.years.specs.Input.{Comes};
 
 use program_feed::Ending;
+use program_input::Heard;
 use std::io;
 use std::io::Read;
+use std::process::ExitCode;
 
 // How many bytes are read at a time, at most: 4,096 records.
 const BLOCK: usize = 65_536;
@@ -22,14 +24,29 @@ enum Outcome {
     Failed,
 }
 
-fn main(rt: HostRuntime) -> io::Result<()> {
+// Where a read or a write fails, one line on standard error says which and why, and the status is 1.
+fn main(rt: HostRuntime) -> ExitCode {
     let mut book = [0u8; book::BYTES];
     let mut block = [0u8; BLOCK];
     let mut page = [0u8; print_years::PAGE_BYTES];
-    let outcome = lay_input(&mut rt.reader(), &mut book, &mut block, &mut page);
-    match outcome {
-        Outcome::Laid(end) => print(&rt, &page[..end]),
-        Outcome::Failed => Err(io::Error::other("standard input could not be read")),
+    let mut input = Heard {
+        reader: rt.reader(),
+        failure: None,
+    };
+    let outcome = lay_input(&mut input, &mut book, &mut block, &mut page);
+    let (what, ended) = match outcome {
+        Outcome::Laid(end) => ("standard output", print(&rt, &page[..end])),
+        Outcome::Failed => (
+            "standard input",
+            Err(input.failure.unwrap_or(io::Error::other("a read failed"))),
+        ),
+    };
+    match ended {
+        Ok(()) => ExitCode::SUCCESS,
+        Err(error) => {
+            let _ = eprintln!(rt; "{what}: {error}");
+            ExitCode::FAILURE
+        }
     }
 }
 
