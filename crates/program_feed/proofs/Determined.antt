@@ -1,4 +1,4 @@
--- Which input comes is the system's, and no contract can say it. The contract tells that the ending and the book are what some input's records make of the
+-- Which input comes is the reader's, and the contract leaves it open. The contract tells that the ending and the book are what some input's records make of the
 -- book before (`Comes`), so that they differ with the input alone; what is one for every input and every reader is how long the book is. Assumes nothing.
 use denote.Param.Laws.{Laws}
 use denote.RattleType.{RattleType}

@@ -1,4 +1,4 @@
--- What a read gives is the system's, and no contract can say it. What the contract tells of it is one, whatever the reader: the bytes that were held before
+-- What a read gives is the reader's, and the contract leaves it open. What the contract tells of it is one, whatever the reader: the bytes that were held before
 -- stay. Assumes nothing.
 use denote.Param.Laws.{Laws}
 use denote.RattleType.{RattleType}

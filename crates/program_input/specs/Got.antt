@@ -1,4 +1,4 @@
--- What a read gives. Which bytes it reads no contract can say. Assumes nothing.
+-- What a read gives. Which bytes it reads is the reader's, and is left open here. Assumes nothing.
 use Rattle.std.specs.Prelude.{ℕ, ◌≤◌, min, Result, Ok, Err}
 use Rattle.program_input.specs.declared.Got.{Got, TheVariants.Bytes, TheVariants.Failed}
 
