@@ -25,7 +25,7 @@ use Rattle.laws.specs.Counting.{first_from}
 use Rattle.meter_hour.specs.Hour.{recorded_of, hour_at, whole_efficiency}
 use Rattle.meter_hour.specs.declared.Kind.TheVariants.{CubicMetres, CubicFeet}
 use Rattle.meter_feet.specs.Feet as Feet
-use Rattle.meter_feet.specs.Feet.{flow_in, content_in, hour_at as feetHourAt}
+use Rattle.meter_feet.specs.Feet.{flow_in, content_in, hour_at as feet_hour_at}
 use Rattle.meter_month.specs.Month.{metered_of, hours_of, month_of, feet_month_of}
 use Rattle.meter_month.specs.declared.MonthAnswer.TheVariants.{Destroyed}
 use Rattle.year.specs.Answer as Year
@@ -67,8 +67,8 @@ silent_out = replicate hours 15
 
 pub feet_month_weighed :
     feet_month_of silent silent silent silent silent_out whole_efficiency
-    ≡ Destroyed (methane (metered_of CubicFeet whole_efficiency silent_out (feetHourAt silent silent silent silent silent_out)))
-unfolding feet_month_of hours_of feetHourAt Feet.recorded_of flow_in content_in first_from
+    ≡ Destroyed (methane (metered_of CubicFeet whole_efficiency silent_out (feet_hour_at silent silent silent silent silent_out)))
+unfolding feet_month_of hours_of feet_hour_at Feet.recorded_of flow_in content_in first_from
 feet_month_weighed = refl
 
 pub year_stated : (book : List ℕ) (year : ℕ) → Answered book year → Year.answer_of book year ≡ Stated (figures_of book year)

@@ -21,7 +21,7 @@ use Rattle.lagoon_month.specs.declared.Month.{Month}
 use Rattle.lagoon_run.specs.declared.Totals.{Totals}
 use Rattle.record_table.specs.Table.{lines, ln}
 use Rattle.record_table.specs.Slot.{slot_of}
-use Rattle.book.specs.Book.{record_at, nothing as noRecord}
+use Rattle.book.specs.Book.{record_at, nothing as no_record}
 use Rattle.book_slots.specs.Reads.{first_month_of, project_methane_of, baseline_co2_of, project_co2_of}
 use Rattle.book_herd.specs.Herd.{line_of, drained_of}
 use Rattle.book_herd.specs.declared.Line.{Line}
@@ -134,7 +134,7 @@ module _ (book : List ℕ) (destroyed : Bool) (s : Stands book destroyed) where
       ∙ ap (λ (t : Totals). anaerobic_of t the_line.b0) (same_year (month_at book 1) the_month first_year (lit≤ tt) months_are)
       ∙ line_sums
 
-  line_in_lem : (l : ℕ) (b : Bool) → eqb l 1 ≡ b → record_at book (slot_of ln (l ∷ [])) ≡ cond b line_record noRecord → line_in book first_year l ≡ cond b the_sums nothing
+  line_in_lem : (l : ℕ) (b : Bool) → eqb l 1 ≡ b → record_at book (slot_of ln (l ∷ [])) ≡ cond b line_record no_record → line_in book first_year l ≡ cond b the_sums nothing
   unfolding line_in
   line_in_lem l true e stands = ap (line_in book first_year) (eqb-true l 1 e) ∙ first_line
   line_in_lem l false e stands =
