@@ -1,62 +1,45 @@
--- The refusals (01, "Refusal numbers"): each number by a name, and the numbers that a request can give, in the order in which it looks for them.
--- Assumes nothing.
+-- The refusals (01, "Refusal numbers"): the number of each reason, and the reasons for which a request is refused, in the order in which it looks for
+-- them. Assumes nothing.
 use Rattle.std.specs.Prelude.{ℕ, List, [], ◌∷◌}
+use Rattle.refusals.specs.declared.Reason.{Reason}
+use Rattle.refusals.specs.declared.Reason.TheVariants.{NotSixteenBytes, UnknownMark, NotZero, OutOfRange, AlreadyFilled, OverShared, Lacking, NoSuchYear, NoMonth, BadHour, SumTooLarge}
 use Rattle.refusals.specs.declared.Refusal.{Refusal}
 
--- a number and its place
-abbrev pub refusal : ℕ → ℕ → Refusal
-refusal number place = record { number = number; place = place }
-
+-- the table's number of each
+abbrev pub number_of : Reason → ℕ
 -- a posted record is not sixteen bytes
-abbrev pub not_sixteen_bytes : ℕ
-not_sixteen_bytes = 1
-
+number_of NotSixteenBytes = 1
 -- letters that are no mark
-abbrev pub unknown_mark : ℕ
-unknown_mark = 2
-
+number_of UnknownMark = 2
 -- a zero byte that is not 0
-abbrev pub not_zero : ℕ
-not_zero = 3
-
+number_of NotZero = 3
 -- a field outside its range, or an efficiency above the whole
-abbrev pub out_of_range : ℕ
-out_of_range = 4
-
+number_of OutOfRange = 4
 -- the key is already filled
-abbrev pub already_filled : ℕ
-already_filled = 5
-
+number_of AlreadyFilled = 5
 -- the shares of one category sum above the whole
-abbrev pub over_shared : ℕ
-over_shared = 7
-
+number_of OverShared = 7
 -- the year lacks a record that it needs
-abbrev pub lacking : ℕ
-lacking = 8
-
+number_of Lacking = 8
 -- a year outside the crediting period
-abbrev pub no_such_year : ℕ
-no_such_year = 9
-
+number_of NoSuchYear = 9
 -- hours that are no month's, or lists that differ in length
-abbrev pub no_month : ℕ
-no_month = 10
-
+number_of NoMonth = 10
 -- an hour whose state or reading is bad
-abbrev pub bad_hour : ℕ
-bad_hour = 11
-
+number_of BadHour = 11
 -- a sum passes 2^63
-abbrev pub sum_too_large : ℕ
-sum_too_large = 12
+number_of SumTooLarge = 12
+
+-- a reason and its place
+abbrev pub refusal : Reason → ℕ → Refusal
+refusal reason place = record { reason = reason; place = place }
 
 -- what posting a record looks for, in this order; what a year does; and what a meter month does
-abbrev pub posting_order : List ℕ
-posting_order = not_sixteen_bytes ∷ unknown_mark ∷ not_zero ∷ out_of_range ∷ already_filled ∷ []
+abbrev pub posting_order : List Reason
+posting_order = NotSixteenBytes ∷ UnknownMark ∷ NotZero ∷ OutOfRange ∷ AlreadyFilled ∷ []
 
-abbrev pub year_order : List ℕ
-year_order = no_such_year ∷ lacking ∷ over_shared ∷ sum_too_large ∷ []
+abbrev pub year_order : List Reason
+year_order = NoSuchYear ∷ Lacking ∷ OverShared ∷ SumTooLarge ∷ []
 
-abbrev pub month_order : List ℕ
-month_order = no_month ∷ out_of_range ∷ bad_hour ∷ []
+abbrev pub month_order : List Reason
+month_order = NoMonth ∷ OutOfRange ∷ BadHour ∷ []
