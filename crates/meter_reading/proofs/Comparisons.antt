@@ -1,7 +1,7 @@
 -- The code's two comparisons, from a on and up to b, refuse exactly what is no number from a to b: of what is no number each is false.
 -- Assumes nothing.
-use Rattle.std.proofs.Common.{◌≡◌, ℕ, ◌+◌, ◌*◌, ◌^◌, ◌<◌, ◌≤◌, Bool, true, false, not, ◌&&◌, ◌||◌, T, eqb, ltb, ◌⊎◌, ℤ, pos, sym, refl, ap, ◌∙◌, subst, inl, inr, true≢false, le_trans, le_of_eq, le_of_lt, zero-lt-suc, eq-zero-or-pos, zero-mul, mul-one, mul_right_comm, le_of_mul-le-mul_right, arith, le→leb, eqb→eq, ltb→lt, lt→ltb}
-use lib.Ieee.{Float, nan, inf, fin, binary32, binary64, up, down, lt, eq, le, is_nan, of_int, in_float}
+use Rattle.std.proofs.Common.{◌≡◌, ℕ, ◌+◌, ◌*◌, ◌^◌, ◌<◌, ◌≤◌, Bool, true, false, not, ◌&&◌, ◌||◌, T, eqb, ltb, ◌⊎◌, ℤ, pos, sym, refl, ap, ◌∙◌, subst, inl, inr, true≢false, le_trans, le_of_eq, le_of_lt, zero-lt-suc, eq-zero-or-pos, zero-mul, mul-one, mul_right_comm, le_of_mul-le-mul_right, arith, eqb→eq, ltb→lt, lt→ltb}
+use lib.Ieee.{Float, nan, inf, fin, binary32, binary64, up, down, lt, eq, le, is_nan, of_int}
 use lib.Ieee.Fits.{and_i, and_l, and_r, eq→eqb, up_pos, down_pos}
 use lib.Ieee.Exact.{HasValue}
 use lib.Ieee.Order.{le_of_values}
@@ -121,10 +121,6 @@ whole_32 n h = round_whole binary32 false n h
 pub whole_64 : (n : ℕ) → n ≤ 2 ^ 53 → HasValue (of_int binary64 (pos n)) false n 1
 unfolding of_int
 whole_64 n h = round_whole binary64 false n h
-
-pub castable : (n : ℕ) → n ≤ 2 ^ 24 → T (in_float binary32 (pos n))
-unfolding in_float
-castable n h = le→leb n (2 ^ 24) h
 
 same : (a b : Bool) → (T a → T b) → (T b → T a) → a ≡ b
 same true true to from = refl

@@ -1,16 +1,10 @@
-// A meter's readings as whole numbers (01, "The meter month"; 02, (iii)). Comparisons refuse what is no reading, a product that is exact scales it,
-// and the floor is worked out from its bits, so that nothing is rounded up on the way.
+// A meter's readings as whole numbers (01, "The meter month"; 02, (iii)); `None` where a reading is turned down, since it is not a number, infinite,
+// too small or too large. Comparisons refuse what is no reading, a product that is exact scales it, and the floor is worked out from its bits, so that
+// nothing is rounded up on the way.
 #![tactic(auto)]
 
 ghost use Rattle.std.specs.Prelude.{◌≡◌, ◌^◌, ◌<◌, ◌≤◌, T};
 ghost use Rattle.meter_reading.specs.Exact.{times_down, is_between, scaled_of, litres_of, hundredths_of, cubic_feet_of, temperature_of, pressure_of};
-
-// A float as a whole number; or turned down, since it is not a number, infinite, too small or too large.
-#[derive(Clone, Copy)]
-pub enum Measure {
-    Whole(u64),
-    TurnedDown,
-}
 
 // A flow in cubic metres is counted in litres.
 const LITRES_IN_CUBIC_METRE: u32 = 1_000;
@@ -36,55 +30,57 @@ const MOST_DEGREES: u32 = 700;
 const MOST_ATM: u32 = 10;
 
 // A flow in cubic metres as whole litres.
-pub fn litres(flow: f32) -> Measure
+pub fn litres(flow: f32) -> Option<u64>
     ensures { result ≡ litres_of flow }
 {
     scaled(flow, LITRES_IN_CUBIC_METRE, 0, MOST_CUBIC_METRES)
 }
 
 // A content as whole hundredths of a per cent.
-pub fn hundredths(content: f32) -> Measure
+pub fn hundredths(content: f32) -> Option<u64>
     ensures { result ≡ hundredths_of content }
 {
     scaled(content, HUNDREDTHS_IN_ONE, 0, MOST_PER_CENT)
 }
 
 // A flow in cubic feet as whole hundredths of one.
-pub fn cubic_feet(flow: f32) -> Measure
+pub fn cubic_feet(flow: f32) -> Option<u64>
     ensures { result ≡ cubic_feet_of flow }
 {
     scaled(flow, HUNDREDTHS_IN_ONE, 0, MOST_CUBIC_FEET)
 }
 
 // A temperature in degrees Rankine as whole hundredths of one.
-pub fn temperature(degrees: f32) -> Measure
+pub fn temperature(degrees: f32) -> Option<u64>
     ensures { result ≡ temperature_of degrees }
 {
     scaled(degrees, HUNDREDTHS_IN_ONE, LEAST_DEGREES, MOST_DEGREES)
 }
 
 // A pressure in atm as whole ten-thousandths of one.
-pub fn pressure(atm: f32) -> Measure
+pub fn pressure(atm: f32) -> Option<u64>
     ensures { result ≡ pressure_of atm }
 {
     scaled(atm, TEN_THOUSANDTHS_IN_ONE, 0, MOST_ATM)
 }
 
-// `factor` times a number from `least` to `most`, by its exact value, rounded down. 24 binary digits times 28 stay below the 53 of an f64,
-// so that the product is exact.
-fn scaled(x: f32, factor: u32, least: u32, most: u32) -> Measure
+// `factor` times a number from `least` to `most`, by its exact value, rounded down; any other float is turned down. 24 binary digits times 28 stay
+// below the 53 of an f64, so that the product is exact.
+#[tactic(auto, unfolding(crate::specs::Exact::scaled_of))]
+fn scaled(x: f32, factor: u32, least: u32, most: u32) -> Option<u64>
     requires factor_bound { factor < 2 ^ 28 }
-    requires least_bound { (least ≤ 2 ^ 24) × (most ≤ 2 ^ 24) }
+    requires ends_exact { (least ≤ 2 ^ 24) × (most ≤ 2 ^ 24) }
     ensures { result ≡ scaled_of factor least most x }
 {
     if is_between(x, least, most) {
         let product: f64 = (x as f64) * (factor as f64);
-        return Measure::Whole(floor(product));
+        return Some(floor(product));
     }
-    Measure::TurnedDown
+    None
 }
 
 // Whether x is a number from `least` to `most`: a comparison with what is no number is false.
+#[tactic(auto, using(crate::proofs::Comparisons::second, crate::proofs::Comparisons::failed))]
 fn is_between(x: f32, least: u32, most: u32) -> bool
     requires { (least ≤ 2 ^ 24) × (most ≤ 2 ^ 24) }
     ensures { result ≡ is_between least most x }

@@ -1,9 +1,8 @@
 -- `meter_reading::scaled` meets its contract: what `is_between` passes is scaled by a product that is exact, and `floor` gives that product's whole part.
 -- Assumes nothing.
-use Rattle.std.proofs.Common.{◌≡◌, ℕ, ◌^◌, ◌<◌, ◌≤◌, Bool, true, cond, not, T, pos, sym, ap, ◌∙◌, subst, arith, rules}
+use Rattle.std.proofs.Common.{◌≡◌, ℕ, Some, None, ◌^◌, ◌<◌, ◌≤◌, Bool, true, cond, not, T, pos, sym, ap, ◌∙◌, subst, arith, rules}
 use lib.Ieee.{Float, binary32, binary64, fits, is_nan, mul, of_int}
 use lib.Ieee.Fits.{and_i, fits_widens}
-use Rattle.meter_reading.specs.declared.Measure.TheVariants.{Whole, TurnedDown}
 use Rattle.meter_reading.specs.Exact.{times_down, is_between, scaled_of}
 use Rattle.meter_reading.proofs.Product.{product}
 use Rattle.meter_reading.proofs.Comparisons.{no_nan, whole_64}
@@ -26,7 +25,7 @@ float_to_float-product c =
 pub floor-requires : goal.floor-requires
 floor-requires c =
     let in_range : T (is_between c.args.least c.args.most c.args.x) = subst T c.if-is_between.ensures tt in
-    (exact c.args.x c.args.factor c.args.least c.args.most c.type_inv.x in_range c.requires.factor_bound c.requires.least_bound.1).0
+    (exact c.args.x c.args.factor c.args.least c.args.most c.type_inv.x in_range c.requires.factor_bound c.requires.ends_exact.1).0
 
 pub returns-then-is_between : goal.returns-then-is_between
 unfolding scaled_of
@@ -34,9 +33,5 @@ returns-then-is_between c =
     let passed : is_between c.args.least c.args.most c.args.x ≡ true = sym c.if-is_between.ensures in
     let in_range : T (is_between c.args.least c.args.most c.args.x) = subst T (sym passed) tt in
     let held : T (fits binary32 c.args.x) = search rules in
-    ap Whole (c.floor.ensures ∙ (exact c.args.x c.args.factor c.args.least c.args.most held in_range c.requires.factor_bound c.requires.least_bound.1).1)
-    ∙ sym (ap (λ (b : Bool). cond b (Whole (times_down c.args.factor c.args.x)) TurnedDown) passed)
-
-pub returns : goal.returns
-unfolding scaled_of
-returns c = sym (ap (λ (b : Bool). cond b (Whole (times_down c.args.factor c.args.x)) TurnedDown) (sym c.is_between.ensures ∙ c.if-is_between.false))
+    ap Some (c.floor.ensures ∙ (exact c.args.x c.args.factor c.args.least c.args.most held in_range c.requires.factor_bound c.requires.ends_exact.1).1)
+    ∙ sym (ap (λ (b : Bool). cond b (Some (times_down c.args.factor c.args.x)) None) passed)
