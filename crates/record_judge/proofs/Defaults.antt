@@ -6,6 +6,7 @@ use mathlib.Core.List.{List}
 use Prim.Native.Nat.{ℕ, ◌+◌, ◌*◌, ◌/◌, ◌%◌}
 use native.Mathlib.Omega.{arith}
 use borrow.Author.Tests.{eqb-true}
+use Rattle.std.specs.Prelude.{Ok}
 use lib.ListN.{length, get_or}
 use Rattle.number_bytes.specs.Number.{number_at}
 use Rattle.record_table.specs.Table.{Range, table, ln, entries_of, record_bytes, after_mark}
@@ -16,7 +17,7 @@ use Rattle.record_defaults.specs.StandsFor.{livestock_at, state_at, Named, stand
 use Rattle.record_judge.specs.Defaults.{defaults_letters, is_defaults, defaults_entries}
 use Rattle.record_defaults.proofs.Inside.{line_range, solids_at, mass_at, b0_at, mass_inside, b0_inside, solids_inside}
 use Rattle.record_judge.specs.Record.{nonzero_in, key_in, row_in, row_of, key_of, key_row, entries_for, verdict, judged}
-use Rattle.record_judge.specs.declared.Judged.TheVariants.{Put}
+use Rattle.record_judge.specs.declared.Change.TheVariants.{Put}
 use Rattle.record_judge.proofs.Entries.{Ranged, none_outside, within_byte}
 
 -- a number is made again by its two bytes, and by one
@@ -68,6 +69,6 @@ module _ (r : List ℕ) (g : Ranged after_mark (defaults_entries r) r) where
       (g.0, (g.1.0, (g.1.1.0, (solids, (mass, (share, (b0, (conversion, tt))))))))
 
   -- it has its letters and no byte that must be 0 and is not, and so it is put into the slot of its line
-  pub line_judged : judged (stands_for r) ≡ Put (slot_of ln (key_of ln r))
+  pub line_judged : judged (stands_for r) ≡ Ok (Put (slot_of ln (key_of ln r)))
   unfolding judged key_row entries_for verdict row_of row_in number_at nonzero_in nonzero_at key_of key_in is_defaults stands_for
   line_judged = rw (none_outside after_mark (entries_of ln) (stands_for r) line_ranged)

@@ -5,13 +5,14 @@ use mathlib.Core.Bool.{Bool, true, false}
 use mathlib.Core.List.{List, [], ◌∷◌, ◌++◌, map}
 use Prim.Native.Nat.{ℕ, ◌+◌, ◌*◌, ◌-◌, ◌<◌}
 use native.Mathlib.Omega.{arith}
+use Rattle.std.specs.Prelude.{Ok}
 use lib.ListN.{length, get_or}
 use Rattle.record_table.specs.Table.{Entry, u8, no_row, table, ln, highest_of, entries_of, after_mark}
 use Rattle.record_table.specs.Slot.{count, index, slots, slot_of}
 use Rattle.record_table.proofs.Slots.{digit_same, Low, index_below, Among, among, among_all, one_row}
 use Rattle.record_judge.specs.Defaults.{is_defaults}
 use Rattle.record_judge.specs.Record.{key_in, row_of, key_of, key_row, judged, stored_of}
-use Rattle.record_judge.specs.declared.Judged.TheVariants.{Put, Empty}
+use Rattle.record_judge.specs.declared.Change.TheVariants.{Put, Empty}
 use Rattle.record_judge.proofs.Taken.{Taken, never_empties}
 use Rattle.record_judge.proofs.StoredBytes.{stored_line, stored_itself, taken}
 use Rattle.record_judge.proofs.Defaults.{defaults_rowless, line_row, line_key}
@@ -56,11 +57,11 @@ module _ (r : List ℕ) (k : ℕ) (t : Taken r k) where
   slot_below = among_all (row_of r) k t.row there
 
 -- the slot into which a record puts its bytes lies inside the book
-pub put_below : (r : List ℕ) (k : ℕ) → judged r ≡ Put k → k < slots
+pub put_below : (r : List ℕ) (k : ℕ) → judged r ≡ Ok (Put k) → k < slots
 put_below r k e = slot_below (stored_of r) k (taken r k e)
 
 -- and the slot of one that would be emptied lies inside the book too
-pub emptied_below : (r : List ℕ) (k : ℕ) → judged r ≡ Empty k → k < slots
+pub emptied_below : (r : List ℕ) (k : ℕ) → judged r ≡ Ok (Empty k) → k < slots
 emptied_below r k e = absurd (never_empties r k e)
 
 -- the row whose key a record has
@@ -101,10 +102,10 @@ key_same r = go (is_defaults r) refl
     go true d = ap (λ (n : ℕ). key_of n (stored_of r)) (defaults_row r d) ∙ ap (key_of ln) (stored_line r d) ∙ line_key r ∙ sym (ap (λ (n : ℕ). key_of n r) (defaults_row r d))
     go false d = ap (key_of (key_row r)) (stored_itself r d)
 
-pub key_slot : (r : List ℕ) (k : ℕ) → judged r ≡ Put k → slot_of (key_row r) (key_of (key_row r) r) ≡ k
+pub key_slot : (r : List ℕ) (k : ℕ) → judged r ≡ Ok (Put k) → slot_of (key_row r) (key_of (key_row r) r) ≡ k
 key_slot r k e = ap (slot_of (key_row r)) (sym (key_same r)) ∙ sym (ap (λ (n : ℕ). slot_of n (key_of n (stored_of r))) (key_row_lem r)) ∙ (taken r k e).slot
 
-pub key_below : (r : List ℕ) (k : ℕ) → judged r ≡ Put k → key_row r < length table
+pub key_below : (r : List ℕ) (k : ℕ) → judged r ≡ Ok (Put k) → key_row r < length table
 key_below r k e = subst (λ (n : ℕ). n < length table) (key_row_lem r) (taken r k e).row
 
 -- two records of the table that are taken for one slot have one key
@@ -124,7 +125,7 @@ same_key r s k t u =
     at_row (row_of r) t.row r s (fields r k t) g (t.slot ∙ sym e) ∙ ap (λ (n : ℕ). key_of n s) m
 
 -- and so have any two that put their bytes into one slot
-pub one_key : (r s : List ℕ) (k : ℕ) → judged r ≡ Put k → judged s ≡ Put k → (key_row r ≡ key_row s) × (key_of (key_row r) r ≡ key_of (key_row s) s)
+pub one_key : (r s : List ℕ) (k : ℕ) → judged r ≡ Ok (Put k) → judged s ≡ Ok (Put k) → (key_row r ≡ key_row s) × (key_of (key_row r) r ≡ key_of (key_row s) s)
 one_key r s k e f =
     let row = sym (key_row_lem r) ∙ same_row (stored_of r) (stored_of s) k (taken r k e) (taken s k f) ∙ key_row_lem s in
     let its : (q : List ℕ) → key_of (key_row q) q ≡ key_of (row_of (stored_of q)) (stored_of q) = λ q. sym (key_same q) ∙ sym (ap (λ (n : ℕ). key_of n (stored_of q)) (key_row_lem q)) in

@@ -8,14 +8,16 @@ use borrow.Author.Tests.{eq-eqb, ne_eqb, lt-ltb, le-ltb}
 use lib.Dec.{eqb, ltb}
 use lib.ListN.{length}
 use Rattle.record_table.specs.Table.{table, ln, record_bytes, after_mark}
-use Rattle.refusals.specs.Refusal.{refusal, not_sixteen_bytes, unknown_mark}
+use Rattle.std.specs.Prelude.{Result, Err}
+use Rattle.refusals.specs.Refusal.{refusal}
+use Rattle.refusals.specs.declared.Refusal.{Refusal}
+use Rattle.refusals.specs.declared.Reason.TheVariants.{NotSixteenBytes, UnknownMark}
 use Rattle.number_bytes.specs.Number.{number_at}
 use Rattle.record_judge.specs.Defaults.{defaults_letters, is_defaults, defaults_entries}
 use Rattle.record_judge.specs.Record.{row_in, row_of, key_row, entries_for, judged_by, judged_as, judged}
-use Rattle.record_judge.specs.declared.Judged.{Judged}
-use Rattle.record_judge.specs.declared.Judged.TheVariants.{Refused}
+use Rattle.record_judge.specs.declared.Change.{Change}
 
-pub short : (r : List ℕ) → (length r ≡ record_bytes → ⊥) → judged r ≡ Refused (refusal not_sixteen_bytes 0)
+pub short : (r : List ℕ) → (length r ≡ record_bytes → ⊥) → judged r ≡ Err (refusal NotSixteenBytes 0)
 unfolding judged
 short r h = simp (ne_eqb _ _ h)
 
@@ -25,8 +27,8 @@ unfolding is_defaults
 lettered r its b e = sym (ap (λ (w : ℕ). eqb w defaults_letters) its) ∙ e
 
 -- by the number of a row, or of none
-abbrev pub by_row : ℕ → List ℕ → Judged
-by_row n r = cond (ltb n (length table)) (judged_as n r) (Refused (refusal unknown_mark 0))
+abbrev pub by_row : ℕ → List ℕ → Result Change Refusal
+by_row n r = cond (ltb n (length table)) (judged_as n r) (Err (refusal UnknownMark 0))
 
 module _ (r : List ℕ) (long : length r ≡ record_bytes) where
   pub as_defaults : is_defaults r ≡ true → judged r ≡ judged_by (defaults_entries r) ln r
@@ -48,15 +50,15 @@ module _ (r : List ℕ) (long : length r ≡ record_bytes) where
     found : eqb letters defaults_letters ≡ false → row_in letters table < length table → judged r ≡ judged_as (row_in letters table) r
     found e h = in_row e ∙ simp (lt-ltb _ _ h)
 
-    pub no_row : eqb letters defaults_letters ≡ false → length table ≤ row_in letters table → judged r ≡ Refused (refusal unknown_mark 0)
+    pub no_row : eqb letters defaults_letters ≡ false → length table ≤ row_in letters table → judged r ≡ Err (refusal UnknownMark 0)
     no_row e h = in_row e ∙ simp (le-ltb _ _ h)
 
   -- by the letters of a mark, and what its row finds
   pub by_row_lem :
-      (mark : ℕ) {letters : ℕ} {found_is : Judged} → letters ≡ mark → letters ≡ number_at r 0 after_mark → eqb mark defaults_letters ≡ false →
+      (mark : ℕ) {letters : ℕ} {found_is : Result Change Refusal} → letters ≡ mark → letters ≡ number_at r 0 after_mark → eqb mark defaults_letters ≡ false →
       row_in mark table < length table → found_is ≡ judged_as (row_in mark table) r → found_is ≡ judged r
   by_row_lem mark is its other h e = e ∙ sym (found mark (sym is ∙ its) other h)
 
   -- and by the letters of LD
-  pub by_defaults : {letters : ℕ} {found_is : Judged} → letters ≡ defaults_letters → letters ≡ number_at r 0 after_mark → found_is ≡ judged_by (defaults_entries r) ln r → found_is ≡ judged r
+  pub by_defaults : {letters : ℕ} {found_is : Result Change Refusal} → letters ≡ defaults_letters → letters ≡ number_at r 0 after_mark → found_is ≡ judged_by (defaults_entries r) ln r → found_is ≡ judged r
   by_defaults is its e = e ∙ sym (as_defaults (lettered r its true (eq-eqb _ _ is)))

@@ -4,12 +4,13 @@ use mathlib.Core.Path.{◌≡◌, refl, ap, ◌∙◌, subst}
 use mathlib.Core.Bool.{Bool, true, false}
 use mathlib.Core.List.{List}
 use Prim.Native.Nat.{ℕ}
+use Rattle.std.specs.Prelude.{Ok}
 use lib.ListN.{length}
 use Rattle.record_table.specs.Table.{record_bytes}
 use Rattle.record_defaults.specs.StandsFor.{Named, stands_for}
 use Rattle.record_judge.specs.Defaults.{is_defaults}
 use Rattle.record_judge.specs.Record.{judged, stored_of}
-use Rattle.record_judge.specs.declared.Judged.TheVariants.{Put}
+use Rattle.record_judge.specs.declared.Change.TheVariants.{Put}
 use Rattle.record_judge.proofs.Defaults.{line_own, line_judged, named}
 use Rattle.record_judge.proofs.Taken.{Taken, defaults_put, row_put}
 
@@ -33,14 +34,14 @@ stored_other r = go (is_defaults r) refl
 pub stored_once : (r : List ℕ) → stored_of (stored_of r) ≡ stored_of r
 stored_once r = stored_itself (stored_of r) (stored_other r)
 
-module _ (r : List ℕ) (k : ℕ) (e : judged r ≡ Put k) where
-  pub stored_judged : judged (stored_of r) ≡ Put k
+module _ (r : List ℕ) (k : ℕ) (e : judged r ≡ Ok (Put k)) where
+  pub stored_judged : judged (stored_of r) ≡ Ok (Put k)
   stored_judged = go (is_defaults r) refl
     where
-      go : (b : Bool) → is_defaults r ≡ b → judged (stored_of r) ≡ Put k
+      go : (b : Bool) → is_defaults r ≡ b → judged (stored_of r) ≡ Ok (Put k)
       go true d =
           let put = defaults_put r k e d in
-          ap judged (stored_line r d) ∙ line_judged r put.0 ∙ ap Put put.1
+          ap judged (stored_line r d) ∙ line_judged r put.0 ∙ ap (λ (slot : ℕ). Ok (Put slot)) put.1
       go false d = ap judged (stored_itself r d) ∙ e
 
   pub taken : Taken (stored_of r) k

@@ -1,5 +1,5 @@
 -- What is so of a record, by what it is judged to do. One that puts bytes into a slot has sixteen bytes, a row of the table or the letters of LD, no field
--- outside its range, and its key's slot; a refusal has a number that posting gives; and no record empties a slot, since no mark does that yet.
+-- outside its range, and its key's slot; a refusal has a reason that posting gives; and no record empties a slot, since no mark does that yet.
 -- Assumes nothing.
 use mathlib.Core.Path.{◌≡◌, refl, sym, subst}
 use mathlib.Core.Bool.{Bool, true, false}
@@ -8,6 +8,7 @@ use Prim.Native.Nat.{ℕ, ◌≤◌, ◌<◌}
 use borrow.Author.Tests.{ltb-true, ltb-false, eqb-true, eqb-false}
 use lib.Dec.{eqb, ltb}
 use lib.ListN.{length}
+use Rattle.std.specs.Prelude.{Result, Ok, Err}
 use Rattle.laws.proofs.Picking.{picked}
 use Rattle.refusals.specs.Refusal.{posting_order}
 use Rattle.refusals.specs.declared.Refusal.{Refusal}
@@ -15,8 +16,8 @@ use Rattle.record_table.specs.Table.{table, ln, entries_of, record_bytes, after_
 use Rattle.record_table.specs.Slot.{slot_of}
 use Rattle.record_judge.specs.Defaults.{is_defaults, defaults_entries}
 use Rattle.record_judge.specs.Record.{nowhere, outside_in, row_of, key_of, verdict, judged_as, judged}
-use Rattle.record_judge.specs.declared.Judged.{Judged}
-use Rattle.record_judge.specs.declared.Judged.TheVariants.{Refused, Put, Empty}
+use Rattle.record_judge.specs.declared.Change.{Change}
+use Rattle.record_judge.specs.declared.Change.TheVariants.{Put, Empty}
 use Rattle.record_judge.proofs.Entries.{Ranged, defaults_ranged}
 use Rattle.record_judge.proofs.Marks.{short, as_defaults, as_row}
 
@@ -32,12 +33,12 @@ PutBy : Bool → List ℕ → ℕ → Type 0
 PutBy true r k = Ranged after_mark (defaults_entries r) r × (slot_of ln (key_of ln r) ≡ k)
 PutBy false r k = Taken r k
 
-So : List ℕ → Judged → Type 0
-So r (Refused x) = Memᴰ x.number posting_order
-So r (Put k) = (length r ≡ record_bytes) × PutBy (is_defaults r) r k
-So r (Empty k) = ⊥
+So : List ℕ → Result Change Refusal → Type 0
+So r (Err x) = Memᴰ x.reason posting_order
+So r (Ok (Put k)) = (length r ≡ record_bytes) × PutBy (is_defaults r) r k
+So r (Ok (Empty k)) = ⊥
 
-by_verdict : (r : List ℕ) (nonzero outside slot : ℕ) → (nowhere ≤ outside → So r (Put slot)) → So r (verdict nonzero outside slot)
+by_verdict : (r : List ℕ) (nonzero outside slot : ℕ) → (nowhere ≤ outside → So r (Ok (Put slot))) → So r (verdict nonzero outside slot)
 unfolding So verdict
 by_verdict r nonzero outside slot put =
     picked (So r) (ltb nonzero nowhere)
@@ -48,11 +49,11 @@ by_verdict r nonzero outside slot put =
     (λ field. put (ltb-false _ _ field)))
 
 module _ (r : List ℕ) (long : length r ≡ record_bytes) where
-  put_defaults : is_defaults r ≡ true → nowhere ≤ outside_in after_mark (defaults_entries r) r → So r (Put (slot_of ln (key_of ln r)))
+  put_defaults : is_defaults r ≡ true → nowhere ≤ outside_in after_mark (defaults_entries r) r → So r (Ok (Put (slot_of ln (key_of ln r))))
   unfolding So PutBy
   put_defaults its inside = (long, subst (λ (b : Bool). PutBy b r (slot_of ln (key_of ln r))) (sym its) (defaults_ranged r inside, refl))
 
-  put_row : is_defaults r ≡ false → ltb (row_of r) (length table) ≡ true → nowhere ≤ outside_in after_mark (entries_of (row_of r)) r → So r (Put (slot_of (row_of r) (key_of (row_of r) r)))
+  put_row : is_defaults r ≡ false → ltb (row_of r) (length table) ≡ true → nowhere ≤ outside_in after_mark (entries_of (row_of r)) r → So r (Ok (Put (slot_of (row_of r) (key_of (row_of r) r))))
   unfolding So PutBy
   put_row other row inside =
       let t : Taken r (slot_of (row_of r) (key_of (row_of r) r)) = record { long = long; row = ltb-true _ _ row; ranged = inside; slot = refl } in
@@ -77,16 +78,16 @@ by_length r false e = subst (So r) (sym (short r (eqb-false _ _ e))) (Memᴰ.hea
 so : (r : List ℕ) → So r (judged r)
 so r = by_length r (eqb (length r) record_bytes) refl
 
-pub never_empties : (r : List ℕ) (k : ℕ) → judged r ≡ Empty k → ⊥
+pub never_empties : (r : List ℕ) (k : ℕ) → judged r ≡ Ok (Empty k) → ⊥
 unfolding So
 never_empties r k e = subst (So r) e (so r)
 
-pub numbered : (r : List ℕ) (x : Refusal) → judged r ≡ Refused x → Memᴰ x.number posting_order
+pub numbered : (r : List ℕ) (x : Refusal) → judged r ≡ Err x → Memᴰ x.reason posting_order
 unfolding So
 numbered r x e = subst (So r) e (so r)
 
 -- of a record that puts bytes into slot k
-module _ (r : List ℕ) (k : ℕ) (e : judged r ≡ Put k) where
+module _ (r : List ℕ) (k : ℕ) (e : judged r ≡ Ok (Put k)) where
   its : (length r ≡ record_bytes) × PutBy (is_defaults r) r k
   unfolding So
   its = subst (So r) e (so r)

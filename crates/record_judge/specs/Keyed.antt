@@ -1,12 +1,13 @@
 -- How the functions of the marks share what they do with a key, and a defaults line's with its livestock. It says nothing of what is refused: `judged`
 -- does.
-use Rattle.std.specs.Prelude.{ℕ, ◌+◌, List, [], ◌∷◌, get_or}
+use Rattle.std.specs.Prelude.{ℕ, ◌+◌, List, [], ◌∷◌, get_or, Result}
+use Rattle.refusals.specs.declared.Refusal.{Refusal}
 use Rattle.record_table.specs.{Table.from, Table.after_mark, Slot.index}
 use Rattle.record_fields.specs.Entry.{outside_at}
 use Rattle.record_defaults.specs.Tables.{livestock_count, lowest_state, highest_state}
 use Rattle.record_defaults.specs.StandsFor.{livestock_at, state_at}
 use Rattle.record_judge.specs.Record.{key_in, verdict}
-use Rattle.record_judge.specs.declared.Judged.{Judged}
+use Rattle.record_judge.specs.declared.Change.{Change}
 
 -- the key's bytes stand first: the offset of the first that is outside 1 to its highest value, or a later place
 unfoldable pub key_outside : ℕ → List ℕ → List ℕ → ℕ → ℕ
@@ -14,7 +15,7 @@ key_outside at [] r later = later
 key_outside at (high ∷ highest) r later = outside_at r at 1 (from 1 high) (key_outside (at + 1) highest r later)
 
 -- the verdict, by a mark's first slot, the highest value of each byte of its key, and the places found after the key
-unfoldable pub keyed : ℕ → List ℕ → List ℕ → ℕ → ℕ → Judged
+unfoldable pub keyed : ℕ → List ℕ → List ℕ → ℕ → ℕ → Result Change Refusal
 keyed first highest r nonzero outside = verdict nonzero (key_outside after_mark highest r outside) (first + index highest (key_in after_mark highest r))
 
 -- the livestock's offset where it is outside, the state's where that is, or a later place

@@ -1,16 +1,17 @@
 -- What a record does, judged alone (01, "The records", "Refusal numbers"; 02, (i)): it is refused, 1 to 4, or it puts bytes into the slot of its key.
 -- Assumes nothing.
-use Rattle.std.specs.Prelude.{ℕ, suc, ◌+◌}
+use Rattle.std.specs.Prelude.{ℕ, suc, ◌+◌, Result, Ok, Err}
 use mathlib.Core.{Bool.cond, List.List, List.[], List.◌∷◌}
 use lib.{Dec.eqb, Dec.ltb, ListN.length, ListN.get_or}
 use Rattle.record_table.specs.Table.{Entry, zeros, field, Row, table, ln, highest_of, entries_of, record_bytes, after_mark}
 use Rattle.number_bytes.specs.Number.{number_at}
 use Rattle.record_table.specs.Slot.{slot_of}
-use Rattle.refusals.specs.Refusal.{refusal, not_sixteen_bytes, unknown_mark, not_zero, out_of_range}
+use Rattle.refusals.specs.{Refusal.refusal, declared.Refusal.Refusal}
+use Rattle.refusals.specs.declared.Reason.TheVariants.{NotSixteenBytes, UnknownMark, NotZero, OutOfRange}
 use Rattle.record_fields.specs.Entry.{outside_at, nonzero_at}
 use Rattle.record_defaults.specs.StandsFor.{stands_for}
 use Rattle.record_judge.specs.Defaults.{is_defaults, defaults_entries}
-use Rattle.record_judge.specs.declared.Judged.{Judged, TheVariants.Refused, TheVariants.Put}
+use Rattle.record_judge.specs.declared.Change.{Change, TheVariants.Put}
 
 -- the place of what is not found: past the record's last byte
 abbrev pub nowhere : ℕ
@@ -52,24 +53,24 @@ unfoldable pub entries_for : List ℕ → List Entry
 entries_for r = cond (is_defaults r) (defaults_entries r) (entries_of (row_of r))
 
 -- a zero byte that is not 0 is refused at its offset; else a field outside its range is, at its offset; else the record is put into its slot
-unfoldable pub verdict : ℕ → ℕ → ℕ → Judged
+unfoldable pub verdict : ℕ → ℕ → ℕ → Result Change Refusal
 verdict nonzero outside slot =
-    cond (ltb nonzero nowhere) (Refused (refusal not_zero nonzero))
-    (cond (ltb outside nowhere) (Refused (refusal out_of_range outside)) (Put slot))
+    cond (ltb nonzero nowhere) (Err (refusal NotZero nonzero))
+    (cond (ltb outside nowhere) (Err (refusal OutOfRange outside)) (Ok (Put slot)))
 
 -- a record judged by its entries, for the slots of a row; and by a row of the table
-abbrev pub judged_by : List Entry → ℕ → List ℕ → Judged
+abbrev pub judged_by : List Entry → ℕ → List ℕ → Result Change Refusal
 judged_by entries row r = verdict (nonzero_in after_mark entries r) (outside_in after_mark entries r) (slot_of row (key_of row r))
 
-unfoldable pub judged_as : ℕ → List ℕ → Judged
+unfoldable pub judged_as : ℕ → List ℕ → Result Change Refusal
 judged_as row r = judged_by (entries_of row) row r
 
 -- any bytes judged: other than sixteen of them are refused, and so are letters that are no mark, both at place 0
-unfoldable pub judged : List ℕ → Judged
+unfoldable pub judged : List ℕ → Result Change Refusal
 judged r =
     cond (eqb (length r) record_bytes)
-    (cond (ltb (key_row r) (length table)) (judged_by (entries_for r) (key_row r) r) (Refused (refusal unknown_mark 0)))
-    (Refused (refusal not_sixteen_bytes 0))
+    (cond (ltb (key_row r) (length table)) (judged_by (entries_for r) (key_row r) r) (Err (refusal UnknownMark 0)))
+    (Err (refusal NotSixteenBytes 0))
 
 -- the sixteen bytes that a record puts into its slot: the record as it came; of a defaults line, the LN that it stands for
 unfoldable pub stored_of : List ℕ → List ℕ

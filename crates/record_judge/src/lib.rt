@@ -5,19 +5,17 @@ pub mod rows;
 
 ghost use Rattle.std.specs.Prelude.{◌≡◌, cond, ◌&&◌, [], ◌∷◌, ◌+◌, ◌^◌, ◌≤◌, ◌<◌, eqb, leb, pos, neg_ℤ, length, drop};
 ghost use Rattle.std.specs.Int.Signed.{le_z};
-ghost use Rattle.refusals.specs.Refusal.{refusal};
 ghost use Rattle.record_table.specs.Table.{unless, yr, ln, hd, tp, dr, pe, mt, entries_of, record_bytes};
 ghost use Rattle.record_fields.specs.Entry.{outside_at};
 ghost use Rattle.record_defaults.specs.Tables.{livestock_count, Livestock, lowest_state, highest_state};
 ghost use Rattle.record_defaults.specs.StandsFor.{state_at};
 ghost use Rattle.record_judge.specs.Defaults.{is_defaults, defaults_entries};
-ghost use Rattle.record_judge.specs.declared.Judged.TheVariants.{Refused};
 ghost use Rattle.record_judge.specs.Record.{nowhere, outside_in, verdict, judged_by, judged_as, judged};
 ghost use Rattle.record_judge.specs.Keyed.{keyed, livestock_outside};
 
 use record_fields::Field;
 use record_table::{One, Two};
-use refusals::Refusal;
+use refusals::{Reason, Refusal};
 
 // The width of a mark, the offsets of the key's bytes after it, and the place that stands for "not found".
 const MARK: usize = 2;
@@ -31,21 +29,20 @@ const NOWHERE: usize = record_table::RECORD;
 // The system that is anaerobic.
 const ANAEROBIC: u8 = 0;
 
-// What a record is judged to do: put sixteen bytes into a slot, which are its own unless it is a defaults line; empty a slot, which no mark does yet; or
-// nothing, since it is refused.
-#[derive(Clone, Copy)]
-pub enum Judged {
-    Refused(Refusal),
+// What a record that is not refused does to the book: put sixteen bytes into a slot, which are its own unless it is a defaults line; or empty a slot, which
+// no mark does yet.
+#[derive(Clone, Copy, Debug, PartialEq, Eq)]
+pub enum Change {
     Put(usize),
     Empty(usize),
 }
 
 // What a record does, by itself: refusals 1 to 4, or what its mark says.
-pub fn judge(posted: &[u8]) -> Judged
+pub fn judge(posted: &[u8]) -> Result<Change, Refusal>
     ensures { result ≡ judged posted.now }
 {
     if posted.len() != record_table::RECORD {
-        return refused(refusals::NOT_SIXTEEN_BYTES, 0);
+        return Err(Reason::NotSixteenBytes.at(0));
     }
     match number_bytes::number(posted, 0, MARK) {
         rows::YR => judge_yr(posted),
@@ -56,14 +53,8 @@ pub fn judge(posted: &[u8]) -> Judged
         rows::PE => judge_pe(posted),
         rows::MT => judge_mt(posted),
         rows::LD => judge_ld(posted),
-        _ => refused(refusals::UNKNOWN_MARK, 0),
+        _ => Err(Reason::UnknownMark.at(0)),
     }
-}
-
-fn refused(number: u8, place: usize) -> Judged
-    ensures { result ≡ Refused (refusal number place) }
-{
-    Judged::Refused(Refusal { number, place })
 }
 
 // Whether a record is a defaults line, which puts the LN that it stands for into its slot (`record_defaults::line`); any other puts itself there.
@@ -75,7 +66,7 @@ pub fn is_defaults(posted: &[u8]) -> bool
 }
 
 // A function for each mark. It looks at the last entry first, so that an earlier place replaces a later one, and at its key last of all.
-fn judge_yr(posted: &[u8]) -> Judged
+fn judge_yr(posted: &[u8]) -> Result<Change, Refusal>
     requires { length posted.now ≡ record_bytes }
     ensures { result ≡ judged_as yr posted.now }
 {
@@ -85,7 +76,7 @@ fn judge_yr(posted: &[u8]) -> Judged
     verdict_on(zero, year, record_table::year_slot())
 }
 
-fn judge_ln(posted: &[u8]) -> Judged
+fn judge_ln(posted: &[u8]) -> Result<Change, Refusal>
     requires { length posted.now ≡ record_bytes }
     ensures { result ≡ judged_as ln posted.now }
 {
@@ -107,7 +98,7 @@ fn line_outside(posted: &[u8]) -> usize
     record_fields::outside(posted, rows::LN_SYSTEM, category)
 }
 
-fn judge_hd(posted: &[u8]) -> Judged
+fn judge_hd(posted: &[u8]) -> Result<Change, Refusal>
     requires { length posted.now ≡ record_bytes }
     ensures { result ≡ judged_as hd posted.now }
 {
@@ -116,7 +107,7 @@ fn judge_hd(posted: &[u8]) -> Judged
     keyed_by_two(posted, record_table::HD, zero, head)
 }
 
-fn judge_tp(posted: &[u8]) -> Judged
+fn judge_tp(posted: &[u8]) -> Result<Change, Refusal>
     requires { length posted.now ≡ record_bytes }
     ensures { result ≡ judged_as tp posted.now }
 {
@@ -125,7 +116,7 @@ fn judge_tp(posted: &[u8]) -> Judged
     keyed_by_one(posted, record_table::TP, zero, temperature_outside(posted))
 }
 
-fn judge_dr(posted: &[u8]) -> Judged
+fn judge_dr(posted: &[u8]) -> Result<Change, Refusal>
     requires { length posted.now ≡ record_bytes }
     ensures { result ≡ judged_as dr posted.now }
 {
@@ -133,7 +124,7 @@ fn judge_dr(posted: &[u8]) -> Judged
     keyed_by_two(posted, record_table::DR, zero, NOWHERE)
 }
 
-fn judge_pe(posted: &[u8]) -> Judged
+fn judge_pe(posted: &[u8]) -> Result<Change, Refusal>
     requires { length posted.now ≡ record_bytes }
     ensures { result ≡ judged_as pe posted.now }
 {
@@ -144,7 +135,7 @@ fn judge_pe(posted: &[u8]) -> Judged
     keyed_by_one(posted, record_table::PE, zero, methane)
 }
 
-fn judge_mt(posted: &[u8]) -> Judged
+fn judge_mt(posted: &[u8]) -> Result<Change, Refusal>
     requires { length posted.now ≡ record_bytes }
     ensures { result ≡ judged_as mt posted.now }
 {
@@ -154,7 +145,7 @@ fn judge_mt(posted: &[u8]) -> Judged
 }
 
 // A defaults line has LN's key (02, (i)).
-fn judge_ld(posted: &[u8]) -> Judged
+fn judge_ld(posted: &[u8]) -> Result<Change, Refusal>
     requires { length posted.now ≡ record_bytes }
     ensures { result ≡ judged_by (defaults_entries posted.now) ln posted.now }
 {
@@ -204,7 +195,7 @@ fn state_field(livestock: u8) -> Field
 
 // A record whose key has one byte, or two, each from 1 on: by the place of a zero byte that is not 0, and that of a field after the key that is outside its
 // range.
-fn keyed_by_one(posted: &[u8], key: One, nonzero: usize, outside: usize) -> Judged
+fn keyed_by_one(posted: &[u8], key: One, nonzero: usize, outside: usize) -> Result<Change, Refusal>
     requires { (length posted.now ≡ record_bytes) × (key.0 < 2 ^ 32) }
     ensures { result ≡ keyed key.0 (key.1 ∷ []) posted.now nonzero outside }
 {
@@ -216,7 +207,7 @@ fn keyed_by_one(posted: &[u8], key: One, nonzero: usize, outside: usize) -> Judg
     )
 }
 
-fn keyed_by_two(posted: &[u8], key: Two, nonzero: usize, outside: usize) -> Judged
+fn keyed_by_two(posted: &[u8], key: Two, nonzero: usize, outside: usize) -> Result<Change, Refusal>
     requires { (length posted.now ≡ record_bytes) × (key.0 < 2 ^ 32) × (key.2 < 256) }
     ensures { result ≡ keyed key.0 (key.1 ∷ key.2 ∷ []) posted.now nonzero outside }
 {
@@ -240,16 +231,16 @@ fn key_byte(byte: u8) -> usize
 }
 
 // Refusal 3 goes before refusal 4 (01, "Refusal numbers").
-fn verdict_on(nonzero: usize, outside: usize, slot: usize) -> Judged
+fn verdict_on(nonzero: usize, outside: usize, slot: usize) -> Result<Change, Refusal>
     ensures { result ≡ verdict nonzero outside slot }
 {
     if nonzero < NOWHERE {
-        return refused(refusals::NOT_ZERO, nonzero);
+        return Err(Reason::NotZero.at(nonzero));
     }
     if outside < NOWHERE {
-        return refused(refusals::OUT_OF_RANGE, outside);
+        return Err(Reason::OutOfRange.at(outside));
     }
-    Judged::Put(slot)
+    Ok(Change::Put(slot))
 }
 
 // The offset of a line's conversion factor that is outside its range, or the place that stands for "not found".

@@ -1,8 +1,9 @@
 -- `record_judge::judge` meets its contract: the letters pick the row. Assumes nothing.
 use borrow.Author.Tests.{ne_eqb}
-use mathlib.Core.Path.{◌≡◌, refl, sym, ◌∙◌}
+use mathlib.Core.Path.{◌≡◌, refl, sym, ap, ◌∙◌}
 use Prim.Native.Nat.{ℕ}
 use lib.Dec.{eqb, lit≤}
+use Rattle.std.specs.Prelude.{Err}
 use mathlib.Core.Bool.{false}
 use Rattle.record_judge.specs.Record.{row_in}
 use Rattle.record_judge.proofs.Marks.{short, by_row_lem, by_defaults, no_row}
@@ -10,7 +11,7 @@ use Rattle.record_judge.proofs.judge.Goals as goal
 
 pub returns-then-posted-ne-RECORD : goal.returns-then-posted-ne-RECORD
 unfolding row_in
-returns-then-posted-ne-RECORD c = c.refused.ensures ∙ sym (short _ c.if-posted-ne-RECORD.true)
+returns-then-posted-ne-RECORD c = ap Err c.at.ensures ∙ sym (short _ c.if-posted-ne-RECORD.true)
 
 pub returns-in-21081 : goal.returns-in-21081
 unfolding row_in
@@ -50,7 +51,7 @@ unfolding row_in
 returns-in_default c =
     let h = c.in_default.in_default-own.rest in
     let other : (w : ℕ) → (c.number.result ≡ w → ⊥) → eqb w c.number.result ≡ false = λ w d. ne_eqb w _ (λ e. d (sym e)) in
-    c.refused-in_default.ensures
+    ap Err c.at-in_default.ensures
     ∙ sym (no_row _ c.if-posted-ne-RECORD.false _ c.number.ensures.value
     (ne_eqb _ _ h.1)
     (simp (other _ h.0.0.0.0.0.0.0.1, other _ h.0.0.0.0.0.0.1, other _ h.0.0.0.0.0.1, other _ h.0.0.0.0.1, other _ h.0.0.0.1, other _ h.0.0.1, other _ h.0.1) (lit≤ tt)))
