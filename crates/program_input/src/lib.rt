@@ -4,60 +4,47 @@
 ghost use Rattle.std.specs.Prelude.{◌≡◌, ◌-◌, ◌<◌, length, take};
 ghost use Rattle.program_input.specs.Got.{got_by, Room};
 
-use std::io;
 use std::io::{ErrorKind, Read};
+use std::{fmt, io};
 
-// How often a read that a signal interrupts is tried again.
+// How often a read that a signal interrupts is tried.
 const TRIES: u64 = 1_000_000;
 
-// What a read gave: a number of bytes, 0 at the input's end; or that it failed.
-#[derive(Clone, Copy)]
-pub enum Got {
-    Bytes(usize),
-    Failed,
-}
-
-// A reader that keeps why a read of it failed, in the system's words.
+// Why a program stops: a read of its input failed, or a write of its output.
 #[derive(Drop)]
-pub struct Heard<R: Read + Drop> {
-    pub reader: R,
-    pub failure: Option<io::Error>,
+pub enum Failure {
+    Input(io::Error),
+    Output(io::Error),
 }
 
-impl<R: Read + Drop> Read for Heard<R> {
-    fn read(&mut self, buf: &mut [u8]) -> io::Result<usize> {
-        match self.reader.read(buf) {
-            Ok(count) => Ok(count),
-            Err(error) => {
-                let kind = error.kind();
-                self.failure = Some(error);
-                Err(io::Error::from(kind))
-            }
+impl fmt::Display for Failure {
+    fn fmt<W: fmt::Write>(&self, f: &mut fmt::Formatter<W>) -> fmt::Result {
+        match self {
+            Failure::Input(error) => write!(f, "standard input: {error}"),
+            Failure::Output(error) => write!(f, "standard output: {error}"),
         }
     }
 }
 
-// Reads once, to the place after the bytes that are held; where a signal interrupts the read, again.
-pub fn read_more<R: Read>(reader: &mut R, block: &mut [u8], held: usize) -> Got
+// Reads once, to the place after the bytes that are held, and says how many bytes came: 0 at the input's end. Where a signal interrupts the read, it reads again.
+pub fn read_more<R: Read>(reader: &mut R, block: &mut [u8], held: usize) -> io::Result<usize>
     requires { held < length block.old }
     ensures room { Room result (length block.old - held) }
     ensures block_unchanged { take held block.new ≡ take held block.old }
 {
-    for _ in 0..TRIES {
+    for _ in 1..TRIES {
         match reader.read(&mut block[held..]) {
             Err(error) if error.kind() == ErrorKind::Interrupted => {}
             answer => return answered(answer, &block[held..]),
         }
     }
-    Got::Failed
+    let answer = reader.read(&mut block[held..]);
+    answered(answer, &block[held..])
 }
 
 // What a read's answer says: an error is a read that failed, and is not taken for the end of the input.
-fn answered(answer: io::Result<usize>, room: &[u8]) -> Got
+fn answered(answer: io::Result<usize>, room: &[u8]) -> io::Result<usize>
     ensures { result ≡ got_by answer (length room.now) }
 {
-    match answer {
-        Ok(count) => Got::Bytes(count.min(room.len())),
-        Err(_) => Got::Failed,
-    }
+    Ok(answer?.min(room.len()))
 }
