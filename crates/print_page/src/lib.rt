@@ -2,7 +2,7 @@
 // other byte of the page as it was, and returns the place after the text.
 #![tactic(auto)]
 
-ghost use Rattle.std.specs.Prelude.{◌≡◌, [], ◌∷◌, ◌++◌, ◌+◌, ◌≤◌, ◌<◌, length, nat_abs};
+ghost use Rattle.std.specs.Prelude.{◌≡◌, [], ◌∷◌, ◌++◌, ◌+◌, ◌≤◌, ◌<◌, length};
 ghost use Rattle.print_page.specs.Number.{base, digit, decimal, signed};
 ghost use Rattle.print_page.specs.Page.{Lays};
 
@@ -34,20 +34,9 @@ pub fn lay_signed(page: &mut [u8], at: usize, number: i64) -> usize
 {
     if number < 0 {
         let minus = lay_word(page, at, b"-");
-        return lay_decimal(page, minus, size(number));
+        return lay_decimal(page, minus, number.unsigned_abs());
     }
-    lay_decimal(page, at, size(number))
-}
-
-// A number without its sign. The lowest i64 has no counterpart above 0: so 1 is added before the sign is changed, and again after.
-fn size(number: i64) -> u64
-    ensures { result ≡ nat_abs number }
-{
-    if number < 0 {
-        let turned = 0 - (number + 1);
-        return turned as u64 + 1;
-    }
-    number as u64
+    lay_decimal(page, at, number.unsigned_abs())
 }
 
 // A number in decimal. Its digits are laid as they are defined: those of a tenth of it, and then its last.

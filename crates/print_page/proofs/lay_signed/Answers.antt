@@ -1,4 +1,4 @@
--- The sign decides which of the two texts the number has, and `size` gives its digits. Assumes nothing.
+-- The sign decides which of the two texts the number has, and `unsigned_abs` gives its digits. Assumes nothing.
 use mathlib.Core.Path.{◌≡◌, ap, ◌∙◌, subst}
 use mathlib.Core.Bool.{Bool}
 use Prim.Native.Nat.{ℕ}
@@ -27,18 +27,18 @@ lay_word-minus-requires c = omega (arith, ap length (minus_text c.args.number (s
 pub lay_decimal-requires : goal.lay_decimal-requires
 lay_decimal-requires c =
     omega
-    (arith, ap length (minus_text c.args.number (sign c.ranges.number c.if-number-lt0.true)), ap (λ (n : ℕ). length (decimal n)) (sized c.ranges.number c.size.ensures))
+    (arith, ap length (minus_text c.args.number (sign c.ranges.number c.if-number-lt0.true)), ap (λ (n : ℕ). length (decimal n)) (sized c.ranges.number c.unsigned_abs.ensures.value))
 
 pub returns-then-number-lt0 : goal.returns-then-number-lt0
 returns-then-number-lt0 c =
     rw (minus_text c.args.number (sign c.ranges.number c.if-number-lt0.true))
-    (joined c.lay_word-minus.ensures (rw (sized c.ranges.number c.size.ensures) at c.lay_decimal.ensures) (omega arith))
+    (joined c.lay_word-minus.ensures (rw (sized c.ranges.number c.unsigned_abs.ensures.value) at c.lay_decimal.ensures) (omega arith))
 
 pub lay_decimal-requires-2 : goal.lay_decimal-requires-2
 lay_decimal-requires-2 c =
     omega
-    (arith, ap length (plain_text c.args.number (sign c.ranges.number c.if-number-lt0.false)), ap (λ (n : ℕ). length (decimal n)) (sized c.ranges.number c.size-2.ensures))
+    (arith, ap length (plain_text c.args.number (sign c.ranges.number c.if-number-lt0.false)), ap (λ (n : ℕ). length (decimal n)) (sized c.ranges.number c.unsigned_abs-2.ensures.value))
 
 pub returns : goal.returns
 returns c =
-    rw (plain_text c.args.number (sign c.ranges.number c.if-number-lt0.false)) (rw (sized c.ranges.number c.size-2.ensures) at c.lay_decimal-2.ensures)
+    rw (plain_text c.args.number (sign c.ranges.number c.if-number-lt0.false)) (rw (sized c.ranges.number c.unsigned_abs-2.ensures.value) at c.lay_decimal-2.ensures)
