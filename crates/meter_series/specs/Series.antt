@@ -1,24 +1,16 @@
--- A month's series: each hour, from 0, recorded a whole number, or nothing. It stands in an array, and past the array's end nothing is recorded.
-use Rattle.std.specs.Prelude.{ℕ, zero, suc, ◌≤◌, ◌^◌, get_or}
-use mathlib.Core.{Bool.Bool, Bool.true, Bool.false, List.List}
-use Rattle.meter_series.specs.declared.Value.{Value, TheVariants.Recorded, TheVariants.Missing}
+-- A month's series: each hour, from 0, recorded a whole number, `Some n`, or nothing, `None`. It stands in an array, and past the array's end nothing is
+-- recorded.
+use Rattle.std.specs.Prelude.{ℕ, Bool, List, Option, None, is_some, unwrap_or, ◌≤◌, ◌^◌, get_or}
 
-abbrev pub is_recorded : Value → Bool
-is_recorded (Recorded n) = true
-is_recorded Missing = false
+abbrev pub is_recorded : Option ℕ → Bool
+is_recorded value = is_some value
 
--- in an array 0 stands for nothing, and n + 1 for n
-abbrev pub value_of : ℕ → Value
-value_of zero = Missing
-value_of (suc n) = Recorded n
-
-abbrev pub series : List ℕ → ℕ → Value
-series hours h = value_of (get_or hours h 0)
+abbrev pub series : List (Option ℕ) → ℕ → Option ℕ
+series hours h = get_or hours h None
 
 -- the number recorded, 0 where there is none
-unfoldable pub amount : Value → ℕ
-amount (Recorded n) = n
-amount Missing = 0
+abbrev pub amount : Option ℕ → ℕ
+amount value = unwrap_or value 0
 
 -- the hours of the longest month
 abbrev pub most_hours : ℕ
@@ -29,5 +21,5 @@ abbrev pub most_amount : ℕ
 most_amount = 2 ^ 60
 
 -- what the code asks of a series: that none of its numbers is above some bound
-abbrev pub AtMost : ℕ → List ℕ → Type 0
+abbrev pub AtMost : ℕ → List (Option ℕ) → Type 0
 AtMost most hours = (h : ℕ) → amount (series hours h) ≤ most
