@@ -18,6 +18,7 @@ const NOVEMBER: u64 = 11;
 
 // The days of a month of the book; month 1 is the first month of the first year. It asks the upper ends
 // of 01's ranges alone.
+#[tactic(auto, unfolding(crate::specs::Days::days_of))]
 pub fn days(first_year: u64, first_month: u64, month: u64) -> u64
     requires { (first_year ≤ 2089) × (first_month ≤ 12) × (month ≤ 120) }
     ensures { result ≡ days_of first_year first_month month }
@@ -31,15 +32,12 @@ pub fn days(first_year: u64, first_month: u64, month: u64) -> u64
 
 // The months gone by since January of the first year. Both counts are from 1, so 2 is taken off, but
 // never below 0: a slot never filled reads 0.
+#[tactic(auto, unfolding(crate::specs::Days::gone_of))]
 fn gone_by(first_month: u64, month: u64) -> u64
     requires { (first_month ≤ 12) × (month ≤ 120) }
     ensures { result ≡ gone_of first_month month }
 {
-    let counted = first_month + month;
-    if counted < 2 {
-        return 0;
-    }
-    counted - 2
+    (first_month + month).saturating_sub(2)
 }
 
 fn length(year: u64, month: u64) -> u64
@@ -53,6 +51,7 @@ fn length(year: u64, month: u64) -> u64
     }
 }
 
+#[tactic(auto, unfolding(crate::specs::Days::february_of))]
 fn february(year: u64) -> u64
     ensures { result ≡ february_of year }
 {

@@ -44,10 +44,10 @@ abbrev pub y_denominator : ℕ → ℕ
 y_denominator c = 60237892 * (27300 + 10 * c)
 
 -- a partial sum of at least four terms keeps a bound: ended on a subtracted term, where their number is even, or on an added one, where it is not
-pub record Ended (onSubtracted : Bool) (Keeps : ℕ → Type 0) : Type 0 where
+pub record Ended (on_subtracted : Bool) (Keeps : ℕ → Type 0) : Type 0 where
   pub terms : ℕ
   pub four : 4 ≤ terms
-  pub ended : even terms ≡ onSubtracted
+  pub ended : even terms ≡ on_subtracted
   pub bound : Keeps terms
 
 -- n is a million times exp(-y), rounded down

@@ -36,13 +36,7 @@ fn entry(tenths: usize) -> u64
     requires { (cold_end ≤ tenths) × (tenths < hot_end) }
     ensures { result ≡ ruled_of tenths }
 {
-    wide(FACTORS[tenths - FIRST_ENTRY])
-}
-
-fn wide(millionths: u32) -> u64
-    ensures { result ≡ millionths }
-{
-    millionths as u64
+    u64::from(FACTORS[tenths - FIRST_ENTRY])
 }
 
 // The factors from 5.0 to 30.1 degrees, by tenths.

@@ -7,7 +7,7 @@ use Rattle.lagoon_month.specs.declared.{Month.Month, Outcome.Outcome, Standing.S
 -- entered, by the sum of the year's twelve heads, which is twelve times their average; 8 tenths are the protocol's calibration; the rest of the divisor
 -- brings the fields' units to grams
 unfoldable pub entered_of : ℕ → ℕ → ℕ → ℕ → ℕ → Solids
-entered_of heads tableSolids mass share days = solids (heads * tableSolids * mass * share * days * 8 / (12 * 100000000))
+entered_of heads table_solids mass share days = solids (heads * table_solids * mass * share * days * 8 / (12 * 100000000))
 
 -- the first month starts from 0
 abbrev pub empty_of : Standing

@@ -22,8 +22,8 @@ const CALIBRATED_PARTS: u64 = ENTERED_PARTS / CALIBRATION;
 // What a herd enters in a month, by the sum of the year's twelve heads. It asks the upper ends of 01's
 // ranges, and a month's days.
 pub fn entered(heads: u64, table_solids: u64, mass: u64, share: u64, days: u64) -> Solids
-    requires heads_le_heads_most { (heads ≤ heads_most) × (table_solids ≤ 2000) × (mass ≤ 20000) × (share ≤ 10000) }
-    requires days_bound { days ≤ 31 }
+    requires in_ranges { (heads ≤ heads_most) × (table_solids ≤ 2000) × (mass ≤ 20000) × (share ≤ 10000) }
+    requires month_days { days ≤ 31 }
     ensures { result ≡ entered_of heads table_solids mass share days }
 {
     Solids::of_grams(heads * table_solids * mass * share * days / CALIBRATED_PARTS)
@@ -71,14 +71,11 @@ impl Standing {
         requires { (available_of self month < grams_most) × (month.factor ≤ million) }
         ensures { result ≡ outcome_of self month }
     {
-        let entered = month.entered;
-        let carried = self.0;
-        let available = entered.plus(carried);
+        let available = month.entered.plus(self.0);
         let degraded = available.share(month.factor, lagoon_factor::MILLION);
         let left = available.less(degraded);
         let nothing = Solids::of_grams(0);
-        let drained = month.drained;
-        if drained {
+        if month.drained {
             Outcome {
                 next: Standing(nothing),
                 degraded,

@@ -27,8 +27,5 @@ pub fn net(total: i64) -> i64
 pub fn credited(net: i64) -> u64
     ensures { result ≡ credited_of net }
 {
-    if net < 0 {
-        return 0;
-    }
-    net as u64
+    net.max(0) as u64
 }

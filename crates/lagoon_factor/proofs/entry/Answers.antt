@@ -6,4 +6,4 @@ use Rattle.lagoon_factor.proofs.entry.Goals as goal
 
 pub returns : goal.returns
 unfolding entry_of factors
-returns c = c.wide.ensures ∙ (entry_right c.args.tenths c.requires.0 c.requires.1).made
+returns c = c.from.ensures ∙ (entry_right c.args.tenths c.requires.0 c.requires.1).made

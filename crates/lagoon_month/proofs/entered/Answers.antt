@@ -8,10 +8,10 @@ use Rattle.lagoon_month.proofs.Entry.{four, five, calibrated}
 use Rattle.lagoon_month.proofs.entered.Goals as goal
 
 pub overflow_mul-heads-3 : goal.overflow_mul-heads-3
-overflow_mul-heads-3 c = omega (arith, four c.requires.heads_le_heads_most)
+overflow_mul-heads-3 c = omega (arith, four c.requires.in_ranges)
 
 pub overflow_mul-heads-4 : goal.overflow_mul-heads-4
-overflow_mul-heads-4 c = omega (arith, five c.requires.heads_le_heads_most c.requires.days_bound)
+overflow_mul-heads-4 c = omega (arith, five c.requires.in_ranges c.requires.month_days)
 
 pub returns : goal.returns
 unfolding entered_of

@@ -18,12 +18,12 @@ offset_bounds-days-passed c = omega arith
 pub bounds-days-passed : goal.bounds-days-passed
 bounds-days-passed c = omega (arith, c.requires.days_len.0)
 
-pub entered-entered-requires-clause-heads_le_heads_most : goal.entered-entered-requires-clause-heads_le_heads_most
-entered-entered-requires-clause-heads_le_heads_most c =
+pub entered-entered-requires-clause-in_ranges : goal.entered-entered-requires-clause-in_ranges
+entered-entered-requires-clause-in_ranges c =
     c.requires.heads_le_heads_most
 
-pub entered-entered-requires-clause-days_bound : goal.entered-entered-requires-clause-days_bound
-entered-entered-requires-clause-days_bound c =
+pub entered-entered-requires-clause-month_days : goal.entered-entered-requires-clause-month_days
+entered-entered-requires-clause-month_days c =
     c.requires.days_len.1 _
 
 pub offset_bounds-entries-passed : goal.offset_bounds-entries-passed
