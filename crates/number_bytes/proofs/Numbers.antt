@@ -1,5 +1,5 @@
 -- Numbers from bytes: one byte more in front, and a bound by the bytes. Assumes nothing.
-use mathlib.Core.Path.{◌≡◌, ap, ◌∙◌}
+use mathlib.Core.Path.{◌≡◌, ap, sym, ◌∙◌}
 use mathlib.Core.List.{List}
 use Prim.Native.Nat.{ℕ, zero, suc, ◌+◌, ◌*◌, ◌-◌, ◌^◌, ◌≤◌, ◌<◌}
 use native.Mathlib.Nat.{pow-zero, pow-suc, lt_of_lt_of_le, pow-le-pow_right}
@@ -7,7 +7,7 @@ use native.Mathlib.Omega.{arith}
 use lib.ListN.{get_or}
 use Rattle.number_bytes.specs.Number.{number_at}
 
-pub number_step :
+number_step :
     (s : List ℕ) (at wide i : ℕ) → 0 < i → i ≤ wide →
     number_at s (at + (i - 1)) (wide - (i - 1)) ≡ number_at s (at + i) (wide - i) * 256 + get_or s (at + (i - 1)) 0
 unfolding number_at
@@ -24,5 +24,13 @@ module _ (s : List ℕ) (bytes : (k : ℕ) → get_or s k 0 < 256) where
   number_bound at zero = rw pow-zero (omega arith)
   number_bound at (suc n) = rw pow-suc (omega (arith, bytes at, number_bound (at + 1) n))
 
-  pub number_fits : (at n : ℕ) → n ≤ 8 → number_at s at n < 2 ^ 64
+  number_fits : (at n : ℕ) → n ≤ 8 → number_at s at n < 2 ^ 64
   number_fits at n l = lt_of_lt_of_le (number_bound at n) (pow-le-pow_right {n = 256} (omega arith) {i = n} {j = 8} l)
+
+  -- a turn of the loop that reads them puts one byte more in front, and stays a number of at most eight
+  module _ (at wide i value : ℕ) (more : 0 < i) (some : i ≤ wide) (is : value ≡ number_at s (at + i) (wide - i)) where
+    pub turn : value * 256 + get_or s (at + (i - 1)) 0 ≡ number_at s (at + (i - 1)) (wide - (i - 1))
+    turn = ap (λ (x : ℕ). x * 256 + get_or s (at + (i - 1)) 0) is ∙ sym (number_step s at wide i more some)
+
+    pub turn_fits : wide ≤ 8 → value * 256 + get_or s (at + (i - 1)) 0 < 2 ^ 64
+    turn_fits eight = rw turn (number_fits (at + (i - 1)) (wide - (i - 1)) (omega (arith, eight)))

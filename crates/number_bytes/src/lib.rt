@@ -9,10 +9,7 @@ pub fn signed(bits: u64) -> i16
     requires { bits < 2 ^ 16 }
     ensures { result ≡ signed_of bits }
 {
-    if bits < 0x8000 {
-        return bits as i16;
-    }
-    (bits as i32 - 0x1_0000) as i16
+    (bits as u16).cast_signed()
 }
 
 // The little-endian number of some bytes.
@@ -21,17 +18,9 @@ pub fn number(bytes: &[u8], at: usize, wide: usize) -> u64
     ensures value { result ≡ number_at bytes.now at wide }
     ensures upper_bound { result < 256 ^ wide }
 {
-    let mut value: u64 = 0;
-    let mut i = wide;
-    while 0 < i {
-        i -= 1;
-        value = value * 256 + widened(bytes[at + i]);
+    let mut value = 0;
+    for i in (0..wide).rev() {
+        value = value * 256 + u64::from(bytes[at + i]);
     }
     value
-}
-
-fn widened(byte: u8) -> u64
-    ensures { result ≡ byte }
-{
-    byte as u64
 }

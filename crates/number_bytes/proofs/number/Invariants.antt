@@ -1,11 +1,8 @@
--- `number_bytes::number`: v is the number of the bytes from at + i on. Assumes nothing.
+-- `number_bytes::number`: value is the number of the bytes from at + i on. Assumes nothing.
 use mathlib.Core.Path.{◌≡◌}
-use Prim.Native.Nat.{◌+◌, ◌-◌, ◌≤◌}
+use Prim.Native.Nat.{◌+◌, ◌-◌}
 use Rattle.number_bytes.specs.Number.{number_at}
 use Rattle.number_bytes.proofs.number.Given as goal
 
 abbrev pub invariant-loop-i : goal.invariant-loop-i
-invariant-loop-i l = (l.i ≤ l.wide) × (l.value ≡ number_at l.bytes (l.at + l.i) (l.wide - l.i))
-
-abbrev pub decreases-loop-i : goal.decreases-loop-i
-decreases-loop-i l = l.i
+invariant-loop-i l = l.value ≡ number_at l.bytes (l.at + l.i) (l.wide - l.i)
