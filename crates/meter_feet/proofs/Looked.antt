@@ -8,14 +8,14 @@ use lib.Dec.{ltb}
 use lib.Ieee.{Float}
 use Rattle.laws.proofs.Picking.{either}
 use Rattle.meter_reading.specs.Exact.{temperature_of, pressure_of}
-use Rattle.meter_reading.specs.declared.Measure.{Measure, TheVariants.Whole, TheVariants.TurnedDown}
+use Rattle.std.specs.Prelude.{Option, Some, None}
 use Rattle.meter_state.specs.State.{has}
-use Rattle.meter_hour.specs.declared.Hour.{Hour, TheVariants.Refused}
-use Rattle.meter_feet.specs.declared.{Sample.Sample, Checked.TheVariants.Bad}
+use Rattle.meter_hour.specs.declared.Recorded.{Recorded}
+use Rattle.meter_feet.specs.declared.Sample.{Sample}
 use Rattle.meter_feet.specs.Feet.{counting, flow_in, content_in, recorded_of}
 
 -- an hour of a state, with these four readings
-abbrev pub hour : ℕ → Float → Float → Float → Float → Hour
+abbrev pub hour : ℕ → Float → Float → Float → Float → Option Recorded
 hour state flow content temperature pressure =
     recorded_of (record { flow = flow; content = content; temperature = temperature; pressure = pressure }) state
 
@@ -36,25 +36,25 @@ module _ (state : ℕ) (flow content temperature pressure : Float) where
   abbrev sample : Sample
   sample = record { flow = flow; content = content; temperature = temperature; pressure = pressure }
 
-  bad_flow : flow_in sample state ≡ Bad → hour state flow content temperature pressure ≡ Refused
+  bad_flow : flow_in sample state ≡ None → hour state flow content temperature pressure ≡ None
   unfolding recorded_of
-  bad_flow e = rw e (either (λ (x : Hour). x ≡ Refused) (ltb 15 state) refl refl)
+  bad_flow e = rw e (either (λ (x : Option Recorded). x ≡ None) (ltb 15 state) refl refl)
 
-  no_temperature : has 8 state ≡ false → temperature_of temperature ≡ TurnedDown → flow_in sample state ≡ Bad
+  no_temperature : has 8 state ≡ false → temperature_of temperature ≡ None → flow_in sample state ≡ None
   unfolding flow_in
   no_temperature e t = rw (e, t)
 
   -- whatever the temperature
-  none_counted : (m : Measure) → counting m (λ n. Bad) ≡ Bad
-  none_counted (Whole n) = refl
-  none_counted TurnedDown = refl
+  none_counted : (m : Option ℕ) → counting m (λ n. None) ≡ None
+  none_counted (Some n) = refl
+  none_counted None = refl
 
-  no_pressure : has 8 state ≡ false → pressure_of pressure ≡ TurnedDown → flow_in sample state ≡ Bad
+  no_pressure : has 8 state ≡ false → pressure_of pressure ≡ None → flow_in sample state ≡ None
   unfolding flow_in
   no_pressure e p = rw (e, p) (none_counted (temperature_of temperature))
 
-  pub bad_temperature : has 8 state ≡ false → temperature_of temperature ≡ TurnedDown → hour state flow content temperature pressure ≡ Refused
+  pub bad_temperature : has 8 state ≡ false → temperature_of temperature ≡ None → hour state flow content temperature pressure ≡ None
   bad_temperature e t = bad_flow (no_temperature e t)
 
-  pub bad_pressure : has 8 state ≡ false → pressure_of pressure ≡ TurnedDown → hour state flow content temperature pressure ≡ Refused
+  pub bad_pressure : has 8 state ≡ false → pressure_of pressure ≡ None → hour state flow content temperature pressure ≡ None
   bad_pressure e p = bad_flow (no_pressure e p)

@@ -4,9 +4,7 @@
 ghost use Rattle.std.specs.Prelude.{◌≡◌, ◌≤◌, ◌<◌, length};
 ghost use Rattle.meter_feet.specs.Feet.{corrected_of, flow_in, content_in, recorded_of, hour_at};
 
-use meter_hour::Hour;
-use meter_reading::Measure;
-use meter_series::Value;
+use meter_hour::Recorded;
 
 // What the meter read in an hour: a flow in cubic feet, a content in per cent, a temperature in degrees Rankine and an absolute pressure in
 // atm. What the hour's state says is missing is not looked at.
@@ -16,13 +14,6 @@ pub struct Sample {
     pub content: f32,
     pub temperature: f32,
     pub pressure: f32,
-}
-
-// A value of an hour, checked: counted, where it is there, or bad.
-#[derive(Clone, Copy)]
-enum Checked {
-    Counted(Value),
-    Bad,
 }
 
 // What is added to a state where there is no flow, where there is no content, and where there is no temperature or no pressure.
@@ -35,7 +26,8 @@ const NOT_CORRECTED: u8 = 8;
 // The highest state: all of these, and the device out.
 const MOST_STATE: u8 = 15;
 
-// What an hour, from 0, records, or that it is refused.
+// What an hour, from 0, records; `None` says that it is refused.
+#[tactic(auto, using(meter_state::proofs::States::before_end), unfolding(crate::specs::Feet::hour_at))]
 pub fn recorded_at(
     flows: &[f32],
     contents: &[f32],
@@ -43,7 +35,7 @@ pub fn recorded_at(
     pressures: &[f32],
     states: &[u8],
     hour: usize,
-) -> Hour
+) -> Option<Recorded>
     requires { (hour < length flows.now) × (hour < length contents.now) × (hour < length temperatures.now)
         × (hour < length pressures.now) × (hour < length states.now) }
     ensures { result ≡ hour_at flows.now contents.now temperatures.now
@@ -58,54 +50,47 @@ pub fn recorded_at(
     recorded(sample, states[hour])
 }
 
-// What a sample records, or that its hour is refused.
-pub fn recorded(sample: Sample, state: u8) -> Hour
+// What a sample records; `None` says that its hour is refused.
+#[tactic(auto, unfolding(crate::specs::Feet::recorded_of))]
+pub fn recorded(sample: Sample, state: u8) -> Option<Recorded>
     ensures { result ≡ recorded_of sample state }
 {
     if MOST_STATE < state {
-        return Hour::Refused;
+        return None;
     }
-    let Checked::Counted(flow) = flow(sample, state) else {
-        return Hour::Refused;
-    };
-    let Checked::Counted(content) = content(sample, state) else {
-        return Hour::Refused;
-    };
-    Hour::Taken(flow, content)
+    let flow = flow(sample, state)?;
+    let content = content(sample, state)?;
+    Some(Recorded { flow, content })
 }
 
-// The corrected flow. Temperature and pressure are checked, flow or none, unless one of them is missing.
-fn flow(sample: Sample, state: u8) -> Checked
+// The corrected flow: the outer `None` says that a value is bad, the inner one that there is no flow. Temperature and pressure are checked,
+// flow or none, unless one of them is missing.
+#[tactic(auto, using(meter_reading::proofs::Most::scaled_within), unfolding(crate::specs::Feet::flow_in))]
+fn flow(sample: Sample, state: u8) -> Option<Option<u64>>
     ensures { result ≡ flow_in sample state }
 {
     if meter_state::has(state, NOT_CORRECTED) {
-        return Checked::Counted(Value::Missing);
+        return Some(None);
     }
-    let Measure::Whole(temperature) = meter_reading::temperature(sample.temperature) else {
-        return Checked::Bad;
-    };
-    let Measure::Whole(pressure) = meter_reading::pressure(sample.pressure) else {
-        return Checked::Bad;
-    };
+    let temperature = meter_reading::temperature(sample.temperature)?;
+    let pressure = meter_reading::pressure(sample.pressure)?;
     if meter_state::has(state, NO_FLOW) {
-        return Checked::Counted(Value::Missing);
+        return Some(None);
     }
-    let Measure::Whole(flow) = meter_reading::cubic_feet(sample.flow) else {
-        return Checked::Bad;
-    };
-    Checked::Counted(Value::Recorded(corrected(flow, temperature, pressure)))
+    let flow = meter_reading::cubic_feet(sample.flow)?;
+    Some(Some(corrected(flow, temperature, pressure)))
 }
 
-fn content(sample: Sample, state: u8) -> Checked
+// The content: the outer `None` says that it is bad, the inner one that there is none.
+#[tactic(auto, unfolding(crate::specs::Feet::content_in))]
+fn content(sample: Sample, state: u8) -> Option<Option<u64>>
     ensures { result ≡ content_in sample state }
 {
     if meter_state::has(state, NO_CONTENT) {
-        return Checked::Counted(Value::Missing);
+        return Some(None);
     }
-    let Measure::Whole(content) = meter_reading::hundredths(sample.content) else {
-        return Checked::Bad;
-    };
-    Checked::Counted(Value::Recorded(content))
+    let content = meter_reading::hundredths(sample.content)?;
+    Some(Some(content))
 }
 
 // The standard temperature, 520 degrees in hundredths, and the standard pressure, 1 atm in ten-thousandths (5.6, for 5.10).
@@ -114,6 +99,7 @@ const STANDARD_TEMPERATURE: u64 = 52_000;
 const STANDARD_PRESSURE: u64 = 10_000;
 
 // What a flow at a temperature and a pressure is at the standard ones. At the ends of the three ranges no product passes 64 bits.
+#[tactic(auto, unfolding(crate::specs::Feet::corrected_of))]
 fn corrected(flow: u64, temperature: u64, pressure: u64) -> u64
     requires { (flow ≤ 40000000) × (40000 ≤ temperature) × (temperature ≤ 70000) × (pressure ≤ 100000) }
     ensures { result ≡ corrected_of flow temperature pressure }

@@ -1,121 +1,95 @@
 // An hour of a meter (01, "The meter month"; 02, (iii)): what it recorded, or that it is refused, and what of that was destroyed.
 #![tactic(auto)]
 
-ghost use Rattle.std.specs.Prelude.{◌≡◌, ◌||◌, ◌≤◌, ◌<◌, length};
+ghost use Rattle.std.specs.Prelude.{◌≡◌, ◌≤◌, ◌<◌, length};
 ghost use Rattle.units.specs.Grams.{methane};
-ghost use Rattle.meter_reading.specs.Exact.{hundredths_of};
-ghost use Rattle.meter_series.specs.Series.{amount, is_recorded};
-ghost use Rattle.meter_hour.specs.Hour.{taking, recorded_of, hour_at, grams_in, whole_efficiency, hour_of};
+ghost use Rattle.meter_series.specs.Series.{amount};
+ghost use Rattle.meter_hour.specs.Hour.{recorded_of, hour_at, grams_in, whole_efficiency, hour_of};
 ghost use Rattle.meter_hour.specs.Room.{most_flow, most_content};
 
-use meter_reading::Measure;
-use meter_series::Value;
 use meter_state::Reading;
 use units::Methane;
 
 // The efficiency of a device that destroys all methane: efficiency counts ten-thousandths.
 pub const WHOLE_EFFICIENCY: u32 = 10_000;
 
-// An hour of a month: taken, with its flow, in what the meter's kind counts, and its content, in hundredths of a per cent, where they are
-// there; or refused.
-#[derive(Clone, Copy)]
-pub enum Hour {
-    Taken(Value, Value),
-    Refused,
+// What an hour recorded, or has after filling: its flow, in what the meter's kind counts, and its content, in hundredths of a per cent, each
+// where it is there.
+#[derive(Clone, Copy, Debug, PartialEq, Eq)]
+pub struct Recorded {
+    pub flow: Option<u64>,
+    pub content: Option<u64>,
 }
 
 // The highest state: neither value, and the device out.
 const MOST_STATE: u8 = 7;
 
-// What an hour, from 0, records, or that it is refused.
-pub fn recorded_at(flows: &[f32], contents: &[f32], states: &[u8], hour: usize) -> Hour
+// What an hour, from 0, records; `None` says that it is refused.
+#[tactic(auto, using(meter_state::proofs::States::before_end), unfolding(crate::specs::Hour::hour_at))]
+pub fn recorded_at(flows: &[f32], contents: &[f32], states: &[u8], hour: usize) -> Option<Recorded>
     requires { (hour < length flows.now) × (hour < length contents.now) × (hour < length states.now) }
     ensures { result ≡ hour_at flows.now contents.now states.now hour }
 {
     if MOST_STATE < states[hour] {
-        return Hour::Refused;
+        return None;
     }
-    recorded(meter_state::reading_at(flows, contents, states, hour))
+    counted(meter_state::reading_at(flows, contents, states, hour))
 }
 
-// What a reading records, or that its hour is refused: each value that is present is turned down or counted in one test.
-fn recorded(reading: Reading) -> Hour
+// What a reading records: a value that is present and turned down has its hour refused.
+#[tactic(auto, unfolding(crate::specs::Hour::recorded_of))]
+fn counted(reading: Reading) -> Option<Recorded>
     ensures { result ≡ recorded_of reading }
 {
-    match reading {
-        Reading::Both(flow, content) => match meter_reading::litres(flow) {
-            Measure::Whole(litres) => with_content(Value::Recorded(litres), content),
-            Measure::TurnedDown => Hour::Refused,
-        },
-        Reading::NoFlow(content) => with_content(Value::Missing, content),
-        Reading::NoContent(flow) => match meter_reading::litres(flow) {
-            Measure::Whole(litres) => Hour::Taken(Value::Recorded(litres), Value::Missing),
-            Measure::TurnedDown => Hour::Refused,
-        },
-        Reading::Neither => Hour::Taken(Value::Missing, Value::Missing),
-    }
-}
-
-// The hour of a flow that is taken, or missing, and a content that is present.
-fn with_content(flow: Value, content: f32) -> Hour
-    ensures { result ≡ taking (hundredths_of content) (Hour.Taken flow) }
-{
-    match meter_reading::hundredths(content) {
-        Measure::Whole(hundredths) => Hour::Taken(flow, Value::Recorded(hundredths)),
-        Measure::TurnedDown => Hour::Refused,
-    }
+    let flow = match reading.flow {
+        Some(flow) => Some(meter_reading::litres(flow)?),
+        None => None,
+    };
+    let content = match reading.content {
+        Some(content) => Some(meter_reading::hundredths(content)?),
+        None => None,
+    };
+    Some(Recorded { flow, content })
 }
 
 // What a meter reads its flow in. It decides what the flow is counted in, litres or hundredths of a standard cubic foot, and what that
 // weighs.
-#[derive(Clone, Copy)]
+#[derive(Clone, Copy, Debug, PartialEq, Eq)]
 pub enum Kind {
     CubicMetres,
     CubicFeet,
 }
 
-// What an hour destroyed, by its flow and content as recorded and after filling.
+// What an hour destroyed, by what it recorded and what it has after filling.
+#[tactic(auto, using(crate::proofs::Sizes::share_most, crate::proofs::Sizes::grams_most_lem), unfolding(crate::specs::Hour::hour_of))]
 pub fn hour_grams(
     kind: Kind,
     efficiency: u32,
     state: u8,
-    recorded_flow: Value,
-    recorded_content: Value,
-    flow: Value,
-    content: Value,
+    recorded: Recorded,
+    filled: Recorded,
 ) -> Methane
-    requires { (efficiency ≤ whole_efficiency) × (amount flow ≤ most_flow kind) × (amount content ≤ most_content) }
-    ensures { result ≡ methane (hour_of kind efficiency state recorded_flow recorded_content flow content) }
+    requires { (efficiency ≤ whole_efficiency) × (amount filled.flow ≤ most_flow kind) × (amount filled.content ≤ most_content) }
+    ensures { result ≡ methane (hour_of kind efficiency state recorded filled) }
 {
     if meter_state::is_out(state) {
         return Methane::of_grams(0);
     }
-    if !is_either(recorded_flow, recorded_content) {
+    if recorded.flow.is_none() && recorded.content.is_none() {
         return Methane::of_grams(0);
     }
-    weigh(kind, flow, content).share(efficiency as u64, WHOLE_EFFICIENCY as u64)
-}
-
-fn is_either(flow: Value, content: Value) -> bool
-    ensures { result ≡ (is_recorded flow || is_recorded content) }
-{
-    if meter_series::is_recorded(flow) {
-        return true;
-    }
-    meter_series::is_recorded(content)
+    weigh(kind, filled).share(efficiency as u64, WHOLE_EFFICIENCY as u64)
 }
 
 // The methane of an hour; none where its flow or its content is missing.
-fn weigh(kind: Kind, flow: Value, content: Value) -> Methane
-    requires { (amount flow ≤ most_flow kind) × (amount content ≤ most_content) }
-    ensures { result ≡ methane (grams_in kind (amount flow) (amount content)) }
+#[tactic(auto, using(crate::proofs::Weighing::no_flow, crate::proofs::Weighing::no_content))]
+fn weigh(kind: Kind, filled: Recorded) -> Methane
+    requires { (amount filled.flow ≤ most_flow kind) × (amount filled.content ≤ most_content) }
+    ensures { result ≡ methane (grams_in kind (amount filled.flow) (amount filled.content)) }
 {
-    match flow {
-        Value::Recorded(flow) => match content {
-            Value::Recorded(content) => kind.grams(flow, content),
-            Value::Missing => Methane::of_grams(0),
-        },
-        Value::Missing => Methane::of_grams(0),
+    match (filled.flow, filled.content) {
+        (Some(flow), Some(content)) => kind.grams(flow, content),
+        _ => Methane::of_grams(0),
     }
 }
 
@@ -132,6 +106,7 @@ const FOOT_PARTS: u64 = 10_000_000_000;
 
 impl Kind {
     // Grams of methane in a flow of some content, in hundredths of a per cent.
+    #[tactic(auto, unfolding(crate::specs::Hour::grams_in))]
     fn grams(self, flow: u64, content: u64) -> Methane
         requires { (flow ≤ most_flow self) × (content ≤ most_content) }
         ensures { result ≡ methane (grams_in self flow content) }
