@@ -1,4 +1,6 @@
 -- A run of bytes may be posted in blocks: where the first ends with a whole record, what is left of it to do is the second's. Assumes nothing.
+use Rattle.std.specs.Prelude.{Result, Ok, Err}
+use Rattle.refusals.specs.declared.Refusal.{Refusal}
 use mathlib.Core.Path.{◌≡◌, refl, sym, ap, ◌∙◌}
 use mathlib.Core.List.{List, [], ◌∷◌, ◌++◌}
 use Prim.Native.Nat.{ℕ, zero, suc, ◌+◌, ◌*◌, ◌-◌, ◌/◌, ◌≤◌}
@@ -8,8 +10,6 @@ use lib.Seq.{take-append-le, drop-append-le, drop_at, drop-drop}
 use Rattle.record_table.specs.Table.{record_bytes}
 use Rattle.book.specs.Book.{record_at, answer_of, book_after}
 use Rattle.book.specs.Run.{records_from, records_of, onward, answer_all, book_all}
-use Rattle.book.specs.declared.Posted.{Posted}
-use Rattle.book.specs.declared.Posted.TheVariants.{Taken, Refused}
 
 -- the records of two blocks are those of the first, then those of the second
 in_first : (a b : List ℕ) (k : ℕ) → k * record_bytes + record_bytes ≤ length a → record_at (a ++ b) k ≡ record_at a k
@@ -57,11 +57,11 @@ blocks a b n l =
 
 -- posting the one, and then, if nothing was refused, the other, is posting both: one law over what is asked of them, the book or the answer
 by :
-    {A : Type 0} (asked : List ℕ → List (List ℕ) → A) (stop : A) (p : Posted) (after : List ℕ) (rs ss : List (List ℕ)) →
+    {A : Type 0} (asked : List ℕ → List (List ℕ) → A) (stop : A) (p : Result Unit Refusal) (after : List ℕ) (rs ss : List (List ℕ)) →
     asked after (rs ++ ss) ≡ onward (answer_all after rs) (asked (book_all after rs) ss) (asked after rs) →
     onward p (asked after (rs ++ ss)) stop ≡ onward (onward p (answer_all after rs) p) (asked (onward p (book_all after rs) after) ss) (onward p (asked after rs) stop)
-by asked stop Taken after rs ss later = later
-by asked stop (Refused x) after rs ss later = refl
+by asked stop (Ok unit) after rs ss later = later
+by asked stop (Err x) after rs ss later = refl
 
 pub book_both : (book : List ℕ) (rs ss : List (List ℕ)) → book_all book (rs ++ ss) ≡ onward (answer_all book rs) (book_all (book_all book rs) ss) (book_all book rs)
 unfolding answer_all book_all

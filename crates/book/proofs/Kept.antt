@@ -1,4 +1,6 @@
 -- The empty book is a book, and every posting keeps a book one. Assumes nothing.
+use Rattle.std.specs.Prelude.{Result, Ok, Err}
+use Rattle.refusals.specs.declared.Refusal.{Refusal}
 use mathlib.Core.Path.{◌≡◌, refl, sym, ◌∙◌, subst}
 use mathlib.Core.Bool.{Bool, true, false}
 use mathlib.Core.List.{List, [], ◌∷◌}
@@ -13,15 +15,13 @@ use Rattle.laws.proofs.Picking.{either}
 use Rattle.record_table.specs.Table.{record_bytes}
 use Rattle.record_table.specs.Slot.{slots}
 use Rattle.record_judge.specs.Record.{judged, stored_of}
-use Rattle.record_judge.specs.declared.Judged.{Judged}
-use Rattle.record_judge.specs.declared.Judged.TheVariants.{Refused as RefusedRecord, Put, Empty}
+use Rattle.record_judge.specs.declared.Change.{Change}
+use Rattle.record_judge.specs.declared.Change.TheVariants.{Put, Empty}
 use Rattle.record_judge.proofs.StoredBytes.{stored_long, stored_judged, stored_once}
 use Rattle.record_judge.proofs.Keys.{put_below, emptied_below}
 use Rattle.book.specs.Book.{book_bytes, record_at, free, nothing, book_with, book_by, answer_of, book_after, empty_book}
 use Rattle.book.specs.Valid.{Stands, Valid}
 use Rattle.book.specs.Run.{onward, book_all}
-use Rattle.book.specs.declared.Posted.{Posted}
-use Rattle.book.specs.declared.Posted.TheVariants.{Taken, Refused}
 use Rattle.book.proofs.Slot.{with_length, slot_same, slot_other, slot_length, slot_byte}
 
 pub same_or_not : (a b : ℕ) (t : Bool) → eqb a b ≡ t → (a ≡ b) ⊎ (a ≡ b → ⊥)
@@ -43,22 +43,22 @@ with_valid book k bytes v h long fits =
           (same_or_not j k (eqb j k) refl);
     }
 
-by : (book r : List ℕ) (found : Judged) → judged r ≡ found → Valid book → Valid (book_by book r found)
+by : (book r : List ℕ) (found : Result Change Refusal) → judged r ≡ found → Valid book → Valid (book_by book r found)
 unfolding book_by
-by book r (RefusedRecord x) e v = v
-by book r (Put k) e v =
+by book r (Err x) e v = v
+by book r (Ok (Put k)) e v =
     let stands : Stands k (stored_of r) = record { judged_so = stored_judged r k e; stored_so = stored_once r } in
     either Valid (free book k) (with_valid book k (stored_of r) v (put_below r k e) (stored_long r k e) (inr stands)) v
-by book r (Empty k) e v = with_valid book k nothing v (emptied_below r k e) (length-replicate {A = ℕ} record_bytes 0) (inl refl)
+by book r (Ok (Empty k)) e v = with_valid book k nothing v (emptied_below r k e) (length-replicate {A = ℕ} record_bytes 0) (inl refl)
 
 pub kept : (book r : List ℕ) → Valid book → Valid (book_after book r)
 unfolding book_after
 kept book r v = by book r (judged r) refl v
 
 -- and so does a run of them
-on : (p : Posted) (further stop : List ℕ) → Valid further → Valid stop → Valid (onward p further stop)
-on Taken further stop v w = v
-on (Refused x) further stop v w = w
+on : (p : Result Unit Refusal) (further stop : List ℕ) → Valid further → Valid stop → Valid (onward p further stop)
+on (Ok unit) further stop v w = v
+on (Err x) further stop v w = w
 
 pub kept_all : (book : List ℕ) (rs : List (List ℕ)) → Valid book → Valid (book_all book rs)
 unfolding book_all

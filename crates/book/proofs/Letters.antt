@@ -8,12 +8,13 @@ use native.Mathlib.Omega.{arith}
 use borrow.Author.Tests.{eqb-true, eqb-false, ne_eqb}
 use lib.Dec.{T, eqb}
 use lib.ListN.{length, get_or}
+use Rattle.std.specs.Prelude.{Ok}
 use Rattle.laws.proofs.Table.{each, at}
 use Rattle.record_table.specs.Table.{Row, no_row, table}
 use Rattle.number_bytes.specs.Number.{number_at}
 use Rattle.record_table.specs.Slot.{slots}
 use Rattle.record_judge.specs.Record.{row_in, row_of, judged}
-use Rattle.record_judge.specs.declared.Judged.TheVariants.{Put}
+use Rattle.record_judge.specs.declared.Change.TheVariants.{Put}
 use Rattle.record_judge.specs.Defaults.{defaults_letters, is_defaults}
 use Rattle.record_judge.proofs.Taken.{row_put}
 use Rattle.book.specs.Book.{record_at, free, nothing}
@@ -57,7 +58,7 @@ unfolding is_defaults number_at
 defaults_start r d z =
     omega (arith, eqb-true (get_or r 0 0 + 256 * (get_or r 1 0 + 256 * 0)) defaults_letters d, z)
 
-pub starts : (r : List ℕ) (k : ℕ) → judged r ≡ Put k → get_or r 0 0 ≡ 0 → ⊥
+pub starts : (r : List ℕ) (k : ℕ) → judged r ≡ Ok (Put k) → get_or r 0 0 ≡ 0 → ⊥
 starts r k e z = go (is_defaults r) refl
   where
     go : (b : Bool) → is_defaults r ≡ b → ⊥
@@ -65,7 +66,7 @@ starts r k e z = go (is_defaults r) refl
     go false d = row_start r (row_put r k e d).row z
 
 -- so a slot that holds a record is filled, and in a book one that is free is empty, and one that is filled holds what posting puts there
-pub held_filled : (book : List ℕ) (k j : ℕ) → judged (record_at book k) ≡ Put j → free book k ≡ false
+pub held_filled : (book : List ℕ) (k j : ℕ) → judged (record_at book k) ≡ Ok (Put j) → free book k ≡ false
 unfolding free
 held_filled book k j e = ne_eqb _ _ (λ z. starts (record_at book k) j e (first_byte book k ∙ z))
 

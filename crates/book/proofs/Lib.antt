@@ -1,5 +1,4 @@
 pub mod Blocks
-pub mod Cleared
 pub mod Determined
 pub mod Free
 pub mod Kept

@@ -1,12 +1,12 @@
 -- One slot of a book: its bytes, and what stands there and elsewhere once sixteen bytes are put into it. Assumes nothing.
 use mathlib.Core.Path.{◌≡◌, refl, sym, ap, ◌∙◌}
-use mathlib.Core.List.{List, [], ◌∷◌, ◌++◌, append_assoc, append-nil}
+use mathlib.Core.List.{List, [], ◌∷◌, ◌++◌, append_assoc}
 use mathlib.Core.Logic.{◌⊎◌, inl, inr, ⊎_elim}
 use Prim.Native.Nat.{ℕ, suc, ◌+◌, ◌*◌, ◌-◌, ◌≤◌, ◌<◌}
 use native.Mathlib.Omega.{arith}
 use borrow.Rule.Slice.PartMut.{put_mid}
-use lib.ListN.{length, get_or, take, drop, set, length-take, length-drop, drop_of_length-le}
-use lib.Seq.{sets, sets-eq, length-sets, get_or-set_other, get_or-take, get_or-drop, ext_get_or, take_at, drop_at, take-length, drop-drop, length-take-le}
+use lib.ListN.{length, get_or, take, drop, set, length-drop}
+use lib.Seq.{sets, sets-eq, length-sets, get_or-set_other, get_or-take, get_or-drop, ext_get_or, take_at, drop_at, drop-drop, length-take-le}
 use Rattle.record_table.specs.Table.{record_bytes}
 use Rattle.record_table.specs.Slot.{slots}
 use Rattle.record_table.proofs.Slots.{lt_or_ge}

@@ -1,40 +1,33 @@
--- `book::post_all` meets its contract: what is posted and what is to come make what all of it makes. Assumes nothing.
-use Prim.Native.Nat.{ℕ, ◌-◌}
-use lib.ListN.{take, drop}
+-- `book::post_all` meets its contract: what is still to come makes what all of it makes. Assumes nothing.
 use mathlib.Core.Path.{sym, ap, ◌∙◌}
-use native.Mathlib.Omega.{arith}
-use borrow.Author.Rules.{rules}
-use Rattle.book.proofs.Runs.{start, next_record, onwards, stopped, ended}
+use lib.ListN.{length}
+use Prim.Native.Nat.{ℕ, min}
+use Rattle.std.specs.Prelude.{Err}
+use Rattle.std.proofs.lemmas.Result.{err_from_is_err_and}
+use Rattle.std.specs.Slice.Iter.{chunks_rest}
+use Rattle.book.proofs.Runs.{onwards, stopped, ended}
 use Rattle.book.proofs.post_all.Goals as goal
 
-pub loop-at-init : goal.loop-at-init
-loop-at-init c = (search rules, start _ _ c.requires)
+pub loop-record-preserved : goal.loop-record-preserved
+loop-record-preserved c =
+    let s = c.in-Some.ensures.steps.1 in
+    let l = c.loop-record in
+    let long = s.1 ∙ ap (λ (n : ℕ). min n (length (chunks_rest l.record-iterator))) l.invariant.sixteen in
+    record {
+      sixteen = c.in-Some.ensures.steps.0 ∙ l.invariant.sixteen;
+      going = onwards l.invariant.going _ _ s.0 long s.2 (sym c.post.ensures.value ∙ c.in_ok-post.was) c.post.ensures.after;
+    }
 
-pub post-answer-requires : goal.post-answer-requires
-post-answer-requires c = c.loop-at.invariant.1.valid
-
-pub returns-in-Refused : goal.returns-in-Refused
-returns-in-Refused c =
-    let at = c.loop-at.at in
-    let run = c.args.run.now in
-    let more = c.loop-at-test.true in
-    let p = c.post-answer.ensures in
-    let its = ap (λ (n : ℕ). take (n - at) (drop at run)) c.record_end-end.ensures ∙ next_record run at c.loop-at.invariant.1.place more in
-    let answer = sym p.value ∙ c.in-Refused.is in
-    let s = stopped _ _ _ _ c.loop-at.invariant.1 more _ its _ answer in
-    record { value = s.0; after = p.after ∙ s.1 }
-
-pub loop-at-preserved : goal.loop-at-preserved
-loop-at-preserved c =
-    let at = c.loop-at.at in
-    let run = c.args.run.now in
-    let more = c.loop-at-test.true in
-    let p = c.post-answer.ensures in
-    let its = ap (λ (n : ℕ). take (n - at) (drop at run)) c.record_end-end.ensures ∙ next_record run at c.loop-at.invariant.1.place more in
-    let answer = sym p.value ∙ c.in_default.is in
-    (omega arith, onwards _ _ _ _ c.loop-at.invariant.1 more _ its answer _ p.after _ c.record_end-end.ensures)
+pub returns-in_err-post : goal.returns-in_err-post
+returns-in_err-post c =
+    let s = c.in-Some.ensures.steps.1 in
+    let l = c.loop-record in
+    let long = s.1 ∙ ap (λ (n : ℕ). min n (length (chunks_rest l.record-iterator))) l.invariant.sixteen in
+    let e = stopped l.invariant.going _ _ s.0 long s.2 _ (sym c.post.ensures.value ∙ c.in_err-post.was) in
+    let p = err_from_is_err_and c.from_residual.result c.from_residual.ensures.1 in
+    record { value = p.1 ∙ ap Err p.2 ∙ e.0; after = c.post.ensures.after ∙ e.1 }
 
 pub returns : goal.returns
 returns c =
-    let e = ended _ _ _ _ c.loop-at.invariant.1 c.loop-at-test.false in
+    let e = ended c.loop-record.invariant.going c.in-None.ensures.steps.1.0 in
     record { value = e.0; after = e.1 }

@@ -1,11 +1,13 @@
--- `book::post_all` meets its contract: what is posted and what is to come make what all of it makes. Assumes nothing.
-use Prim.Native.Nat.{◌≤◌, ◌-◌}
-use lib.ListN.{length}
+-- `book::post_all` meets its contract: what is still to come makes what all of it makes. Assumes nothing.
+use Rattle.std.proofs.Common.{◌≡◌}
+use Rattle.std.specs.Slice.Iter.{chunks_rest, chunks_size}
+use Rattle.record_table.specs.Table.{record_bytes}
 use Rattle.book.proofs.Runs.{Going}
 use Rattle.book.proofs.post_all.Given as goal
 
-abbrev pub invariant-loop-at : goal.invariant-loop-at
-invariant-loop-at l = (l.at ≤ length l.run) × Going l.initial.book l.run l.book l.at
-
-abbrev pub decreases-loop-at : goal.decreases-loop-at
-decreases-loop-at l = length l.run - l.at
+abbrev pub invariant-loop-record : goal.invariant-loop-record
+invariant-loop-record l =
+    record {
+      sixteen : chunks_size l.record-iterator ≡ record_bytes;
+      going : Going l.initial.book l.run l.book (chunks_rest l.record-iterator);
+    }
