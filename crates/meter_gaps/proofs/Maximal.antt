@@ -1,6 +1,7 @@
 -- A missing hour of the month stands in the run from `start_of` up to `end_of`: each hour of it is missing, no hour beside it is, and no other
 -- run holds that hour. So the gap that is filled is the maximal one.
 -- Assumes nothing.
+use Rattle.std.specs.Prelude.{Option}
 use Prim.Native.Nat.{ℕ, zero, suc, ◌+◌, ◌-◌, ◌≤◌, ◌<◌}
 use mathlib.Core.Path.{◌≡◌, refl, ap, sym, ◌∙◌}
 use mathlib.Core.Bool.{Bool, true, false, cond, true≢false}
@@ -11,11 +12,10 @@ use Rattle.laws.specs.Counting.{first_from}
 use Rattle.laws.proofs.Counting.{search_between}
 use Rattle.meter_series.specs.Series.{is_recorded}
 use Rattle.meter_gaps.specs.Filling.{start_of, end_of}
-use Rattle.meter_series.specs.declared.Value.{Value}
 use Rattle.meter_gaps.proofs.Stepping.{start_le}
 
 -- the hours from a up to b of a month of n are missing, hour h is one of them, and no hour of the month beside them is missing
-pub record Run (s : ℕ → Value) (n h a b : ℕ) : Type 0 where
+pub record Run (s : ℕ → Option ℕ) (n h a b : ℕ) : Type 0 where
   pub from : a ≤ h
   pub below : h < b
   pub within : b ≤ n
@@ -27,17 +27,17 @@ by_test : (t : Bool) (P : Bool → Type 0) → P true → P false → P t
 by_test true P p q = p
 by_test false P p q = q
 
-up_to : (s : ℕ → Value) (h j : ℕ) → is_recorded (s h) ≡ false → (j < h → is_recorded (s j) ≡ false) → j < suc h → is_recorded (s j) ≡ false
+up_to : (s : ℕ → Option ℕ) (h j : ℕ) → is_recorded (s h) ≡ false → (j < h → is_recorded (s j) ≡ false) → j < suc h → is_recorded (s j) ≡ false
 up_to s h j e r b = ⊎_elim (λ q. ap (λ (k : ℕ). is_recorded (s k)) q ∙ e) r (eq-or-lt_of_le {n = j} {m = h} (omega arith))
 
-start_missing : (s : ℕ → Value) (h j : ℕ) → start_of s h ≤ j → j < h → is_recorded (s j) ≡ false
+start_missing : (s : ℕ → Option ℕ) (h j : ℕ) → start_of s h ≤ j → j < h → is_recorded (s j) ≡ false
 unfolding start_of
 start_missing s zero j a b = absurd (omega arith)
 start_missing s (suc h) j a b =
     by_test (is_recorded (s h)) (λ t. is_recorded (s h) ≡ t → cond t (suc h) (start_of s h) ≤ j → is_recorded (s j) ≡ false)
     (λ e l. absurd (omega arith)) (λ e l. up_to s h j e (λ q. start_missing s h j l q) b) refl a
 
-start_before : (s : ℕ → Value) (h j : ℕ) → j + 1 ≡ start_of s h → is_recorded (s j) ≡ true
+start_before : (s : ℕ → Option ℕ) (h j : ℕ) → j + 1 ≡ start_of s h → is_recorded (s j) ≡ true
 unfolding start_of
 start_before s zero j e = absurd (omega arith)
 start_before s (suc h) j e =
@@ -65,7 +65,7 @@ module _ (p : ℕ → Bool) where
 never : (b : Bool) → b ≡ true → b ≡ false → ⊥
 never b t f = true≢false (sym t ∙ f)
 
-module _ (s : ℕ → Value) (n h : ℕ) (inside : h < n) (gone : is_recorded (s h) ≡ false) where
+module _ (s : ℕ → Option ℕ) (n h : ℕ) (inside : h < n) (gone : is_recorded (s h) ≡ false) where
   early : start_of s h ≤ n
   early = omega (arith, start_le s h)
 
@@ -97,7 +97,7 @@ at_least : (a c : ℕ) → (a < c → ⊥) → c ≤ a
 at_least a c h = le_of_suc-le-suc (lt_of_not-le h)
 
 -- two runs that hold one hour are one
-module _ (s : ℕ → Value) (n h a b c d : ℕ) (one : Run s n h a b) (other : Run s n h c d) where
+module _ (s : ℕ → Option ℕ) (n h a b c d : ℕ) (one : Run s n h a b) (other : Run s n h c d) where
   no_earlier : a < c → ⊥
   no_earlier l =
       never (is_recorded (s (c - 1))) (other.before (c - 1) (omega arith))
@@ -109,7 +109,7 @@ module _ (s : ℕ → Value) (n h a b c d : ℕ) (one : Run s n h a b) (other : 
       (other.missing b (omega (arith, other.from, one.below)) l)
 
 pub only :
-    (s : ℕ → Value) (n h a b c d : ℕ) → Run s n h a b → Run s n h c d → (a ≡ c) × (b ≡ d)
+    (s : ℕ → Option ℕ) (n h a b c d : ℕ) → Run s n h a b → Run s n h c d → (a ≡ c) × (b ≡ d)
 only s n h a b c d one other = (
   le_antisymm (at_least c a (no_earlier s n h c d a b other one)) (at_least a c (no_earlier s n h a b c d one other)),
   le_antisymm (at_least d b (no_later s n h c d a b other one)) (at_least b d (no_later s n h a b c d one other)),

@@ -1,5 +1,7 @@
 -- No number that filling makes is larger than the largest that was recorded: an average is at most the largest of the eight.
 -- Assumes nothing.
+use Rattle.std.specs.Prelude.{Option, Some, None}
+use mathlib.Core.Path.{◌≡◌}
 use Prim.Native.Nat.{ℕ, zero, suc, ◌+◌, ◌*◌, ◌-◌, ◌≤◌}
 use mathlib.Core.Bool.{Bool, true, false, ◌&&◌, cond}
 use native.Mathlib.Nat.{suc-mul}
@@ -7,39 +9,36 @@ use native.Mathlib.Omega.{arith}
 use lib.Dec.{leb, ltb}
 use Rattle.meter_series.specs.Series.{amount}
 use Rattle.meter_gaps.specs.Filling.{start_of, end_of, plus, total_of, neighbours, mean_of, in_month, average_of, fill_of, fill_from, or_else, filled}
-use Rattle.meter_series.specs.declared.Value.{Value}
-use Rattle.meter_series.specs.declared.Value.TheVariants.{Recorded, Missing}
 
-plus_most : (v w : Value) → amount (plus v w) ≤ amount v + amount w
-unfolding amount
-plus_most (Recorded x) (Recorded y) = omega arith
-plus_most (Recorded x) Missing = omega arith
-plus_most Missing w = omega arith
+plus_most : (v w : Option ℕ) → amount (plus v w) ≤ amount v + amount w
+plus_most (Some x) (Some y) = omega arith
+plus_most (Some x) None = omega arith
+plus_most None w = omega arith
 
-mean_most : (v : Value) (m : ℕ) → amount v ≤ 8 * m → amount (mean_of v) ≤ m
-unfolding amount
-mean_most (Recorded t) m h = omega arith
-mean_most Missing m h = omega arith
+mean_most : (v : Option ℕ) (m : ℕ) → amount v ≤ 8 * m → amount (mean_of v) ≤ m
+mean_most (Some t) m h = omega arith
+mean_most None m h = omega arith
 
-picked_most : (b : Bool) (v : Value) (m : ℕ) → amount v ≤ m → amount (cond b v Missing) ≤ m
-unfolding amount
+picked_most : (b : Bool) (v : Option ℕ) (m : ℕ) → amount v ≤ m → amount (cond b v None) ≤ m
 picked_most true v m h = h
 picked_most false v m h = omega arith
 
-or_most : (v w : Value) (m : ℕ) → amount v ≤ m → amount w ≤ m → amount (or_else v w) ≤ m
-or_most (Recorded x) w m a b = a
-or_most Missing w m a b = b
+or_most : (v w : Option ℕ) (m : ℕ) → amount v ≤ m → amount w ≤ m → amount (or_else v w) ≤ m
+or_most (Some x) w m a b = a
+or_most None w m a b = b
 
-none_most : amount (Recorded 0) ≤ 0
-unfolding amount
-none_most = omega arith
-
-module _ (s : ℕ → Value) (m : ℕ) (small : (h : ℕ) → amount (s h) ≤ m) where
-  pub total_most : (a k : ℕ) → amount (total_of s a k) ≤ k * m
+module _ (s : ℕ → Option ℕ) (m : ℕ) (small : (h : ℕ) → amount (s h) ≤ m) where
+  total_most : (a k : ℕ) → amount (total_of s a k) ≤ k * m
   unfolding total_of
-  total_most a zero = omega (arith, none_most)
+  total_most a zero = omega arith
   total_most a (suc k) =
       omega (arith, suc-mul k m, plus_most (total_of s a k) (s (a + k)), total_most a k, small (a + k))
+
+  pub sum_most : (a k t : ℕ) → total_of s a k ≡ Some t → t ≤ k * m
+  sum_most a k t p = rw p at (total_most a k)
+
+  pub hour_most : (h v : ℕ) → s h ≡ Some v → v ≤ m
+  hour_most h v p = rw p at (small h)
 
   average_most : (n a b : ℕ) → amount (average_of s n a b) ≤ m
   unfolding average_of

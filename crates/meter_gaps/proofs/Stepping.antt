@@ -1,5 +1,6 @@
 -- An hour more: of a sum, and of the run that an hour stands in.
 -- Assumes nothing.
+use Rattle.std.specs.Prelude.{Option, Some, None}
 use Prim.Native.Nat.{ℕ, zero, suc, ◌+◌, ◌-◌, ◌≤◌, ◌<◌}
 use mathlib.Core.Path.{◌≡◌, refl, sym, subst}
 use mathlib.Core.Bool.{Bool, true, false, cond}
@@ -7,16 +8,27 @@ use native.Mathlib.Numerals.{add-one}
 use native.Mathlib.Omega.{arith}
 use borrow.Author.Tests.{eq-eqb, ne_eqb, eqb-false}
 use lib.Dec.{eqb}
+use mathlib.Core.Logic.{⊎_elim}
+use native.Mathlib.Nat.{eq-or-lt_of_le}
 use Rattle.meter_series.specs.Series.{is_recorded}
 use Rattle.meter_gaps.specs.Filling.{start_of, plus, total_of}
-use Rattle.meter_series.specs.declared.Value.{Value}
 
-pub total_more :
-    (s : ℕ → Value) (a k : ℕ) {t v : Value} → t ≡ total_of s a k → v ≡ s (a + k) → plus t v ≡ total_of s a (k + 1)
-unfolding total_of
-total_more s a k p q = rw (add-one k, p, q)
+module _ (s : ℕ → Option ℕ) (a : ℕ) where
+  pub total_more : (k t v : ℕ) → total_of s a k ≡ Some t → s (a + k) ≡ Some v → total_of s a (k + 1) ≡ Some (t + v)
+  unfolding total_of
+  total_more k t v p q = rw (add-one k, p, q)
 
-pub start_le : (s : ℕ → Value) (h : ℕ) → start_of s h ≤ h
+  -- an hour that is missing leaves no sum
+  pub total_none : (k n : ℕ) → k < n → s (a + k) ≡ None → total_of s a n ≡ None
+  unfolding total_of
+  total_none k zero b e = absurd (omega arith)
+  total_none k (suc n) b e = ⊎_elim (λ q. subst (λ (j : ℕ). plus (total_of s a j) (s (a + j)) ≡ None) q (rw e (plus_none (total_of s a k)))) (λ l. rw (total_none k n l e)) (eq-or-lt_of_le {n = k} {m = n} (omega arith))
+    where
+      plus_none : (t : Option ℕ) → plus t None ≡ None
+      plus_none None = refl
+      plus_none (Some t) = refl
+
+pub start_le : (s : ℕ → Option ℕ) (h : ℕ) → start_of s h ≤ h
 unfolding start_of
 start_le s zero = omega arith
 start_le s (suc h) = picked_le (is_recorded (s h)) (omega arith) (let l = start_le s h in omega arith)
@@ -26,11 +38,11 @@ start_le s (suc h) = picked_le (is_recorded (s h)) (omega arith) (let l = start_
     picked_le false p q = q
 
 -- a run starts at the first hour, and after an hour that is recorded
-pub start_first : (s : ℕ → Value) (h : ℕ) → h ≡ 0 → true ≡ eqb (start_of s h) h
+pub start_first : (s : ℕ → Option ℕ) (h : ℕ) → h ≡ 0 → true ≡ eqb (start_of s h) h
 unfolding start_of
 start_first s h e = rw e
 
-pub start_test : (s : ℕ → Value) (h : ℕ) → (h ≡ 0 → ⊥) → is_recorded (s (h - 1)) ≡ eqb (start_of s h) h
+pub start_test : (s : ℕ → Option ℕ) (h : ℕ) → (h ≡ 0 → ⊥) → is_recorded (s (h - 1)) ≡ eqb (start_of s h) h
 unfolding start_of
 start_test s zero n = absurd (n refl)
 start_test s (suc h) n = let e : suc h - 1 ≡ h = omega arith in rw e (picked (is_recorded (s h)))
@@ -39,7 +51,7 @@ start_test s (suc h) n = let e : suc h - 1 ≡ h = omega arith in rw e (picked (
     picked true = sym (eq-eqb (suc h) (suc h) refl)
     picked false = sym (ne_eqb (start_of s h) (suc h) (λ z. omega (arith, start_le s h)))
 
-module _ (s : ℕ → Value) (h : ℕ) where
+module _ (s : ℕ → Option ℕ) (h : ℕ) where
   pub start_earlier : eqb (start_of s h) h ≡ false → start_of s h < h
   start_earlier e = lt_of_ne (start_of s h) h (start_le s h) (eqb-false (start_of s h) h e)
     where

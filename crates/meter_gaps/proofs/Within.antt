@@ -1,6 +1,7 @@
 -- What fills the gaps of a month is made of that month's hours alone: two series that agree in the month are filled alike, whatever either has past
 -- its end.
 -- Assumes nothing.
+use Rattle.std.specs.Prelude.{Option, None}
 use Prim.Native.Nat.{ℕ, zero, suc, ◌+◌, ◌-◌, ◌≤◌, ◌<◌}
 use mathlib.Core.Path.{◌≡◌, refl, ap}
 use mathlib.Core.Bool.{Bool, true, false, ◌&&◌, cond, true≢false}
@@ -10,8 +11,6 @@ use borrow.Author.Tests.{leb-true, ltb-true}
 use Rattle.laws.specs.Counting.{first_from}
 use Rattle.meter_series.specs.Series.{is_recorded}
 use Rattle.meter_gaps.specs.Filling.{start_of, end_of, plus, total_of, neighbours, mean_of, in_month, average_of, fill_of, fill_from, or_else, filled}
-use Rattle.meter_series.specs.declared.Value.{Value}
-use Rattle.meter_series.specs.declared.Value.TheVariants.{Missing}
 use Rattle.meter_gaps.proofs.Stepping.{start_le}
 
 first_same : (p q : ℕ → Bool) (a k : ℕ) → ((j : ℕ) → a ≤ j → j < a + k → p j ≡ q j) → first_from a k p ≡ first_from a k q
@@ -21,7 +20,7 @@ first_same p q a (suc k) same =
     rw (same a (omega arith) (omega arith), first_same p q (a + 1) k (λ j l b. same j (omega arith) (omega arith)))
 
 -- two values that are alike where a test holds are alike where it decides
-where_true : (b : Bool) (v w : Value) → (b ≡ true → v ≡ w) → cond b v Missing ≡ cond b w Missing
+where_true : (b : Bool) (v w : Option ℕ) → (b ≡ true → v ≡ w) → cond b v None ≡ cond b w None
 where_true true v w same = same refl
 where_true false v w same = refl
 
@@ -29,7 +28,7 @@ both : (b c : Bool) → b && c ≡ true → (b ≡ true) × (c ≡ true)
 both true c e = (refl, e)
 both false c e = (e, absurd (let z : true ≡ false = cc in true≢false z))
 
-module _ (s t : ℕ → Value) (n : ℕ) (same : (h : ℕ) → h < n → s h ≡ t h) where
+module _ (s t : ℕ → Option ℕ) (n : ℕ) (same : (h : ℕ) → h < n → s h ≡ t h) where
   start_same : (h : ℕ) → h ≤ n → start_of s h ≡ start_of t h
   unfolding start_of
   start_same zero l = refl

@@ -1,14 +1,9 @@
 -- `meter_gaps::end_from` meets its contract. The loop's invariant: the search from `end` on gives what the search from `start` on gives.
 -- Assumes nothing.
-use mathlib.Core.Path.{◌≡◌}
-use Prim.Native.Nat.{◌≤◌, ◌-◌}
-use lib.ListN.{length}
+use Rattle.std.proofs.Common.{◌≡◌, ◌≤◌, length}
 use Rattle.meter_series.specs.Series.{series}
 use Rattle.meter_gaps.specs.Filling.{end_of}
 use Rattle.meter_gaps.proofs.end_from.Given as goal
 
 abbrev pub invariant-loop-end : goal.invariant-loop-end
-invariant-loop-end l = (l.end ≤ length l.hours) × (end_of (series l.hours) (length l.hours) l.start ≡ end_of (series l.hours) (length l.hours) l.end)
-
-abbrev pub decreases-loop-end : goal.decreases-loop-end
-decreases-loop-end l = length l.hours - l.end
+invariant-loop-end l = (l.end ≤ length l.hours) × (l.end-end ≡ length l.hours) × (end_of (series l.hours) (length l.hours) l.start ≡ end_of (series l.hours) (length l.hours) l.end)

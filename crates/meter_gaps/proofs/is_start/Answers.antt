@@ -1,14 +1,11 @@
--- `meter_gaps::is_start` meets its contract: the hour before tells, and the first hour has none.
+-- `meter_gaps::is_start` meets its contract: the hour before tells.
 -- Assumes nothing.
 use mathlib.Core.Path.{ap, ◌∙◌}
 use Rattle.meter_series.specs.Series.{is_recorded, series}
-use Rattle.meter_gaps.proofs.Stepping.{start_first, start_test}
+use Rattle.meter_gaps.proofs.Stepping.{start_test}
 use Rattle.meter_gaps.proofs.is_start.Goals as goal
-
-pub returns-then-hour-eq0 : goal.returns-then-hour-eq0
-returns-then-hour-eq0 c = let a = c.args in start_first (series a.hours.now) a.hour c.if-hour-eq0.true
 
 pub returns : goal.returns
 returns c =
     let a = c.args in
-    c.is_recorded.ensures ∙ ap is_recorded c.at.ensures ∙ start_test (series a.hours.now) a.hour c.if-hour-eq0.false
+    c.is_some.ensures ∙ ap is_recorded c.at.ensures ∙ start_test (series a.hours.now) a.hour c.if-hour-eq0.false
