@@ -9,13 +9,13 @@ use lib.ListN.{length}
 use Rattle.record_table.specs.Table.{lines, categories, months, entries_of, ln, hd}
 use Rattle.book.specs.Valid.{Valid}
 use Rattle.book_slots.specs.Field.{seen_at, number_of, seen_of, filled_of}
-use Rattle.book_slots.specs.declared.Seen.TheVariants.{Nothing, Value}
+use Rattle.std.specs.Prelude.{Some, None}
 use Rattle.book_slots.proofs.Ranges.{In, unsigned, entry_at, low, high, seen_in, most}
 use Rattle.book_herd.specs.Herd.{system_of, line_of}
 use Rattle.book_herd.specs.declared.Line.{Line}
 
 -- where one field of a slot is read, every other has its own lowest value at least
-least : (filled : Bool) (x other lowest most : ℕ) {seen : ℕ} → cond filled (Value other) Nothing ≡ Value seen → In lowest most (cond filled (Value x) Nothing) → lowest ≤ x
+least : (filled : Bool) (x other lowest most : ℕ) {seen : ℕ} → cond filled (Some other) None ≡ Some seen → In lowest most (cond filled (Some x) None) → lowest ≤ x
 least true x other lowest most read inside = inside.0
 least false x other lowest most read inside = let z : ◌≡◌ {A = ℕ} 0 1 = cc in absurd (omega arith)
 
@@ -54,7 +54,7 @@ module _ (book : List ℕ) (v : Valid book) where
       }
 
   -- a line that stands in the book has a category
-  pub category_some : (line : ℕ) {system : ℕ} → line ≤ lines → system_of book line ≡ Value system → 1 ≤ (line_of book line).category
+  pub category_some : (line : ℕ) {system : ℕ} → line ≤ lines → system_of book line ≡ Some system → 1 ≤ (line_of book line).category
   unfolding seen_at
   category_some line h read = least (filled_of book ln (line ∷ [])) (line_of book line).category (line_of book line).system (low ln 2) (high ln 2) read
       (line_in_lem line h 2 (lit≤ tt) tt)

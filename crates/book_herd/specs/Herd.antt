@@ -1,17 +1,17 @@
 -- What the year reads of the lines and the heads of a book (01, "The records"): LN, HD and DR. Lines, categories and months count from 1.
 -- The last number of each read says which entry of its row in 01's table it is, counted from 0, the bytes of the key and the zero bytes too.
 -- Assumes nothing.
-use Rattle.std.specs.Prelude.{ℕ}
+use Rattle.std.specs.Prelude.{ℕ, Option}
 use mathlib.Core.{Bool.Bool, List.List, List.[], List.◌∷◌}
 use Rattle.record_table.specs.Table.{ln, hd, dr}
-use Rattle.book_slots.specs.{Field.number_of, Field.seen_of, Field.filled_of, declared.Seen.Seen}
+use Rattle.book_slots.specs.{Field.number_of, Field.seen_of, Field.filled_of}
 use Rattle.book_herd.specs.declared.Line.{Line}
 
 -- LN
-abbrev pub system_of : List ℕ → ℕ → Seen
+abbrev pub system_of : List ℕ → ℕ → Option ℕ
 system_of book line = seen_of book ln (line ∷ []) 1
 
-abbrev pub category_of : List ℕ → ℕ → Seen
+abbrev pub category_of : List ℕ → ℕ → Option ℕ
 category_of book line = seen_of book ln (line ∷ []) 2
 
 -- all of a line's numbers at once, 0 where no LN stands
@@ -28,7 +28,7 @@ line_of book line =
     }
 
 -- HD
-abbrev pub head_of : List ℕ → ℕ → ℕ → Seen
+abbrev pub head_of : List ℕ → ℕ → ℕ → Option ℕ
 head_of book category month = seen_of book hd (category ∷ month ∷ []) 2
 
 -- DR

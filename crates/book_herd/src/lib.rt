@@ -1,5 +1,5 @@
 // The lines and the heads that a book holds: each field of LN and of HD, and the drain marks of a line.
-#![tactic(auto)]
+#![tactic(auto, using(book_slots::proofs::Inside::inside))]
 
 ghost use Rattle.std.specs.Prelude.{◌≡◌, [], ◌∷◌, ◌+◌, ◌*◌, ◌≤◌};
 ghost use Rattle.record_table.specs.Table.{lines, categories, months, ln, record_bytes};
@@ -9,7 +9,6 @@ ghost use Rattle.book.specs.Valid.{Valid};
 ghost use Rattle.book_slots.specs.Field.{seen_at};
 ghost use Rattle.book_herd.specs.Herd.{system_of, category_of, line_of, head_of, drained_of};
 
-use book_slots::Seen;
 use record_fields::Field;
 use record_judge::rows;
 
@@ -24,14 +23,14 @@ pub struct Line {
     pub conversion: u64,
 }
 
-pub fn system(book: &[u8], line: usize) -> Seen
+pub fn system(book: &[u8], line: usize) -> Option<u64>
     requires { (Valid book.now) × (line ≤ lines) }
     ensures { result ≡ system_of book.now line }
 {
     line_field(book, line, rows::LN_SYSTEM)
 }
 
-pub fn category(book: &[u8], line: usize) -> Seen
+pub fn category(book: &[u8], line: usize) -> Option<u64>
     requires { (Valid book.now) × (line ≤ lines) }
     ensures { result ≡ category_of book.now line }
 {
@@ -54,7 +53,7 @@ pub fn line_at(book: &[u8], line: usize) -> Line
     }
 }
 
-pub fn head(book: &[u8], category: usize, month: usize) -> Seen
+pub fn head(book: &[u8], category: usize, month: usize) -> Option<u64>
     requires { (Valid book.now) × (category ≤ categories) × (month ≤ months) }
     ensures { result ≡ head_of book.now category month }
 {
@@ -72,7 +71,7 @@ pub fn drained(book: &[u8], line: usize, month: usize) -> bool
     book_slots::filled(book, record_table::drain_slot(line, month))
 }
 
-fn line_field(book: &[u8], line: usize, entry: Field) -> Seen
+fn line_field(book: &[u8], line: usize, entry: Field) -> Option<u64>
     requires { (Valid book.now) × (line ≤ lines) × (entry.0 + entry.1 ≤ record_bytes) × (entry.1 ≤ 8) }
     ensures { result ≡ seen_at book.now (slot_of ln (line ∷ [])) entry.0 entry.1 }
 {

@@ -18,10 +18,7 @@ use Rattle.book.specs.Book.{record_at}
 use Rattle.book.specs.Valid.{Valid}
 use Rattle.book_slots.specs.Field.{seen_at, number_of, seen_of, filled_of}
 use Rattle.book_slots.specs.Reads.{temperature_of}
-use Rattle.book_slots.specs.declared.Seen.{Seen}
-use Rattle.book_slots.specs.declared.Seen.TheVariants.{Nothing, Value}
-use Rattle.book_slots.specs.declared.Warmth.{Warmth}
-use Rattle.book_slots.specs.declared.Warmth.TheVariants.{Unknown, Tenths}
+use Rattle.std.specs.Prelude.{Option, Some, None}
 use Rattle.book_slots.proofs.Within.{filled_ranged, empty_zero}
 
 -- the lowest and the highest value of entry n of a row, where it is an unsigned field
@@ -53,9 +50,9 @@ abbrev pub high : ℕ → ℕ → ℕ
 high row n = top_of (entry_at row n)
 
 -- nothing, or a value in a range
-abbrev pub In : ℕ → ℕ → Seen → Type 0
-In least most Nothing = Unit {0}
-In least most (Value x) = (least ≤ x) × (x ≤ most)
+abbrev pub In : ℕ → ℕ → Option ℕ → Type 0
+In least most None = Unit {0}
+In least most (Some x) = (least ≤ x) × (x ≤ most)
 
 at_most : (b : Bool) (top : ℕ) → cond b 0 top ≤ top
 at_most true top = omega arith
@@ -67,7 +64,7 @@ narrow r by top x e =
     let b = within 0 (cond (eqb (get_or r by 0) 0) 0 top) r x e in
     omega (arith, b.1, at_most (eqb (get_or r by 0) 0) top)
 
-either : (b : Bool) {x least most : ℕ} → (b ≡ true → (least ≤ x) × (x ≤ most)) → In least most (cond b (Value x) Nothing)
+either : (b : Bool) {x least most : ℕ} → (b ≡ true → (least ≤ x) × (x ≤ most)) → In least most (cond b (Some x) None)
 either true f = f refl
 either false f = tt
 
@@ -93,11 +90,11 @@ module _ (book : List ℕ) (v : Valid book) (row : ℕ) (h : row < length table)
   most t = small (filled_of book row bytes) (ranged_by (entry_at row n) refl t) (empty_zero book v row h bytes l n m)
 
 -- unknown, or from minus a number to another
-abbrev pub Mild : ℕ → ℕ → Warmth → Type 0
-Mild below above Unknown = Unit {0}
-Mild below above (Tenths t) = (le_z (neg_ℤ (pos below)) t ≡ true) × (le_z t (pos above) ≡ true)
+abbrev pub Mild : ℕ → ℕ → Option ℤ → Type 0
+Mild below above None = Unit {0}
+Mild below above (Some t) = (le_z (neg_ℤ (pos below)) t ≡ true) × (le_z t (pos above) ≡ true)
 
-mild : (b : Bool) (t : ℤ) (below above : ℕ) → (b ≡ true → (le_z (neg_ℤ (pos below)) t ≡ true) × (le_z t (pos above) ≡ true)) → Mild below above (cond b (Tenths t) Unknown)
+mild : (b : Bool) (t : ℤ) (below above : ℕ) → (b ≡ true → (le_z (neg_ℤ (pos below)) t ≡ true) × (le_z t (pos above) ≡ true)) → Mild below above (cond b (Some t) None)
 mild true t below above f = f refl
 mild false t below above f = tt
 

@@ -1,5 +1,5 @@
-// One field of one slot of a book, and what stands in the slots of YR, TP, PE and MT.
-#![tactic(auto)]
+// One field of one slot of a book, and what stands in the slots of YR, TP, PE and MT. None is a slot that was never filled, and 0 is a value.
+#![tactic(auto, using(crate::proofs::Inside::inside))]
 
 ghost use Rattle.std.specs.Prelude.{◌≡◌, not, [], ◌∷◌, ◌+◌, ◌*◌, ◌≤◌, ◌<◌};
 ghost use Rattle.record_table.specs.Table.{months, devices, yr, tp, pe, record_bytes};
@@ -13,67 +13,51 @@ ghost use Rattle.book_slots.specs.Reads.{first_year_of, first_month_of, temperat
 use record_fields::Field;
 use record_judge::rows;
 
-// A field of a slot: nothing where the slot was never filled, and 0 is a value.
-#[derive(Clone, Copy)]
-pub enum Seen {
-    Nothing,
-    Value(u64),
-}
-
-// A month's temperature, in tenths of a degree.
-#[derive(Clone, Copy)]
-pub enum Warmth {
-    Unknown,
-    Tenths(i16),
-}
-
-pub fn first_year(book: &[u8]) -> Seen
+pub fn first_year(book: &[u8]) -> Option<u64>
     requires { Valid book.now }
     ensures { result ≡ first_year_of book.now }
 {
     year_field(book, rows::YR_FIRST_YEAR)
 }
 
-pub fn first_month(book: &[u8]) -> Seen
+pub fn first_month(book: &[u8]) -> Option<u64>
     requires { Valid book.now }
     ensures { result ≡ first_month_of book.now }
 {
     year_field(book, rows::YR_FIRST_MONTH)
 }
 
-pub fn temperature(book: &[u8], month: usize) -> Warmth
+// In tenths of a degree.
+pub fn temperature(book: &[u8], month: usize) -> Option<i16>
     requires { (Valid book.now) × (month ≤ months) }
     ensures { result ≡ temperature_of book.now month }
 {
     let slot = record_table::temperature_slot(month);
-    if filled(book, slot) {
-        return Warmth::Tenths(tenths(book, slot));
-    }
-    Warmth::Unknown
+    filled(book, slot).then(|| tenths(book, slot))
 }
 
-pub fn project_methane(book: &[u8], month: usize) -> Seen
+pub fn project_methane(book: &[u8], month: usize) -> Option<u64>
     requires { (Valid book.now) × (month ≤ months) }
     ensures { result ≡ project_methane_of book.now month }
 {
     project_field(book, month, rows::PE_PROJECT_METHANE)
 }
 
-pub fn baseline_co2(book: &[u8], month: usize) -> Seen
+pub fn baseline_co2(book: &[u8], month: usize) -> Option<u64>
     requires { (Valid book.now) × (month ≤ months) }
     ensures { result ≡ baseline_co2_of book.now month }
 {
     project_field(book, month, rows::PE_BASELINE_CO2)
 }
 
-pub fn project_co2(book: &[u8], month: usize) -> Seen
+pub fn project_co2(book: &[u8], month: usize) -> Option<u64>
     requires { (Valid book.now) × (month ≤ months) }
     ensures { result ≡ project_co2_of book.now month }
 {
     project_field(book, month, rows::PE_PROJECT_CO2)
 }
 
-pub fn destroyed(book: &[u8], month: usize, device: usize) -> Seen
+pub fn destroyed(book: &[u8], month: usize, device: usize) -> Option<u64>
     requires { (Valid book.now) × (month ≤ months) × (device ≤ devices) }
     ensures { result ≡ destroyed_of book.now month device }
 {
@@ -85,30 +69,29 @@ pub fn destroyed(book: &[u8], month: usize, device: usize) -> Seen
 }
 
 // One field of the slot of a mark and its key.
-fn year_field(book: &[u8], entry: Field) -> Seen
+fn year_field(book: &[u8], entry: Field) -> Option<u64>
     requires { (Valid book.now) × (entry.0 + entry.1 ≤ record_bytes) × (entry.1 ≤ 8) }
     ensures { result ≡ seen_at book.now (slot_of yr []) entry.0 entry.1 }
 {
     read(book, record_table::year_slot(), entry)
 }
 
-fn project_field(book: &[u8], month: usize, entry: Field) -> Seen
+fn project_field(book: &[u8], month: usize, entry: Field) -> Option<u64>
     requires { (Valid book.now) × (month ≤ months) × (entry.0 + entry.1 ≤ record_bytes) × (entry.1 ≤ 8) }
     ensures { result ≡ seen_at book.now (slot_of pe (month ∷ [])) entry.0 entry.1 }
 {
     read(book, record_table::project_slot(month), entry)
 }
 
-pub fn read(book: &[u8], slot: usize, entry: Field) -> Seen
+#[tactic(auto, unfolding(crate::specs::Field::seen_at))]
+pub fn read(book: &[u8], slot: usize, entry: Field) -> Option<u64>
     requires { (Valid book.now) × (slot < slots) × (entry.0 + entry.1 ≤ record_bytes) × (entry.1 ≤ 8) }
     ensures { result ≡ seen_at book.now slot entry.0 entry.1 }
 {
-    if filled(book, slot) {
-        return Seen::Value(field(book, slot, entry));
-    }
-    Seen::Nothing
+    filled(book, slot).then(|| field(book, slot, entry))
 }
 
+#[tactic(auto, unfolding(book::specs::Book::free))]
 pub fn filled(book: &[u8], slot: usize) -> bool
     requires { (Valid book.now) × (slot < slots) }
     ensures { result ≡ not (free book.now slot) }

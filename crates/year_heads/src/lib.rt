@@ -38,10 +38,11 @@ fn of_category(book: &[u8], year: usize, category: usize) -> u64
     heads
 }
 
+#[tactic(auto, unfolding(crate::specs::Heads::head_at))]
 fn head(book: &[u8], category: usize, month: usize) -> u64
     requires valid { Valid book.now }
     requires category_le_categories { (category ≤ categories) × (month ≤ months) }
     ensures { result ≡ head_at book.now category month }
 {
-    year_months::amount(book_herd::head(book, category, month))
+    book_herd::head(book, category, month).unwrap_or(0)
 }

@@ -7,18 +7,10 @@ use lib.ListN.{get_or}
 use lib.Seq.{ext_get_or}
 use Rattle.laws.proofs.Determined.{OneAnswer, one}
 use Rattle.year_months.specs.Asks.{Holds}
-use Rattle.year_months.proofs.is_filled.Reads as IsFilled
-use Rattle.year_months.proofs.amount.Reads as Amount
 use Rattle.year_months.proofs.months_before.Reads as MonthsBefore
 use Rattle.year_months.proofs.months_through.Reads as MonthsThrough
 use Rattle.year_months.proofs.days.Reads as Days
 use Rattle.year_months.proofs.factors.Reads as Factors
-
-pub is_filled_one : OneAnswer IsFilled.Learnt
-is_filled_one κ a x y s t = one
-
-pub amount_one : OneAnswer Amount.Learnt
-amount_one κ a x y s t = one
 
 pub months_before_one : OneAnswer MonthsBefore.Learnt
 months_before_one κ a x y s t = one

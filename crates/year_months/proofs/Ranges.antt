@@ -7,13 +7,12 @@ use lib.Dec.{lit≤}
 use Rattle.book.specs.Valid.{Valid}
 use Rattle.book_slots.proofs.Ranges.{In, year_in}
 use Rattle.book_slots.specs.Reads.{first_year_of, first_month_of}
-use Rattle.book_slots.specs.declared.Seen.{Seen}
-use Rattle.book_slots.specs.declared.Seen.TheVariants.{Nothing, Value}
+use Rattle.std.specs.Prelude.{Option, Some, None}
 use Rattle.year_months.specs.Series.{amount_of}
 
-pub amount_most : (least most : ℕ) (seen : Seen) → In least most seen → amount_of seen ≤ most
-amount_most least most Nothing i = omega arith
-amount_most least most (Value x) i = i.1
+pub amount_most : (least most : ℕ) (seen : Option ℕ) → In least most seen → amount_of seen ≤ most
+amount_most least most None i = omega arith
+amount_most least most (Some x) i = i.1
 
 module _ (book : List ℕ) (v : Valid book) where
   pub first_year_most : amount_of (first_year_of book) ≤ 2089

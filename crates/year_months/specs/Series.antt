@@ -1,23 +1,19 @@
 -- The amount in a slot, the years of the crediting period, and what a book says of a month (01, "The records", "The lagoon month"). Months count from 1.
-use Rattle.std.specs.Prelude.{ℕ, ◌+◌, ◌*◌, ◌-◌, ◌/◌}
-use mathlib.Core.{Bool.Bool, Bool.true, Bool.false, List.List}
+use Rattle.std.specs.Prelude.{ℕ, ◌+◌, ◌*◌, ◌-◌, ◌/◌, ℤ, Option, Some, None, is_some, unwrap_or}
+use mathlib.Core.{Bool.Bool, List.List}
 use Rattle.laws.specs.Counting.{sum}
 use Rattle.calendar.specs.Days.{months_in_year, days_of}
 use Rattle.lagoon_factor.specs.Factor.{factor_of}
 use Rattle.book_slots.specs.Reads.{first_year_of, first_month_of, temperature_of}
-use Rattle.book_slots.specs.declared.Seen.{Seen, TheVariants.Nothing, TheVariants.Value}
-use Rattle.book_slots.specs.declared.Warmth.{Warmth, TheVariants.Unknown, TheVariants.Tenths}
 
 -- the slot was filled (01, "The records": one that was never filled is no value)
-abbrev pub filled : Seen → Bool
-filled Nothing = false
-filled (Value amount) = true
+abbrev pub filled : Option ℕ → Bool
+filled seen = is_some seen
 
 -- the amount in a slot, 0 where it was never filled: 01 says so of a device without MT ("Refusal numbers"), and no other record is lacking where its
 -- amount is used
-abbrev pub amount_of : Seen → ℕ
-amount_of Nothing = 0
-amount_of (Value amount) = amount
+abbrev pub amount_of : Option ℕ → ℕ
+amount_of seen = unwrap_or seen 0
 
 -- the years of the crediting period
 abbrev pub first_year : ℕ
@@ -46,9 +42,9 @@ unfoldable pub days_at : List ℕ → ℕ → ℕ
 days_at book m = days_of (amount_of (first_year_of book)) (amount_of (first_month_of book)) m
 
 -- the factor of month m
-abbrev pub factor_by : Warmth → ℕ
-factor_by Unknown = 0
-factor_by (Tenths tenths) = factor_of tenths
+abbrev pub factor_by : Option ℤ → ℕ
+factor_by None = 0
+factor_by (Some tenths) = factor_of tenths
 
 unfoldable pub factor_at : List ℕ → ℕ → ℕ
 factor_at book m = factor_by (temperature_of book m)

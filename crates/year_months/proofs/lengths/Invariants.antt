@@ -1,13 +1,9 @@
 -- `year_months::lengths` meets its contract: after so many months passed the array holds their days.
 -- Assumes nothing.
-use Prim.Native.Nat.{ℕ, ◌-◌, ◌≤◌}
+use Prim.Native.Nat.{ℕ}
 use Rattle.calendar.specs.Days.{months_in_year, days_of}
 use Rattle.year_months.specs.Asks.{Holds}
 use Rattle.year_months.proofs.lengths.Given as goal
 
 abbrev pub invariant-loop-passed : goal.invariant-loop-passed
-invariant-loop-passed l =
-    (l.passed ≤ months_in_year) × Holds ℕ 0 months_in_year l.before l.passed (days_of l.first_year l.first_month) l.lengths
-
-abbrev pub decreases-loop-passed : goal.decreases-loop-passed
-decreases-loop-passed l = months_in_year - l.passed
+invariant-loop-passed l = Holds ℕ 0 months_in_year l.before l.passed (days_of l.first_year l.first_month) l.days-items
