@@ -3,6 +3,8 @@ use mathlib.Core.Path.{◌≡◌}
 use Prim.Native.Nat.{◌+◌, ◌^◌, ◌≤◌, ◌<◌}
 use native.Mathlib.Omega.{arith}
 use lib.ListN.{length, length-append}
+use Rattle.refusals.specs.Refusal.{number_of}
+use Rattle.refusals.proofs.Bounds.{number_bound}
 use Rattle.refusals.specs.declared.Refusal.{Refusal}
 use Rattle.print_page.specs.Number.{decimal}
 use Rattle.print_page.proofs.Digits.{at_most}
@@ -10,10 +12,10 @@ use Rattle.print_page.proofs.Lengths.{wide}
 use Rattle.print_refusal.specs.Text.{refusal_text}
 
 module _ (refusal : Refusal) where
-  pub refusal_length : length (refusal_text refusal) ≡ 13 + length (decimal refusal.number) + length (decimal refusal.place)
+  pub refusal_length : length (refusal_text refusal) ≡ 13 + length (decimal (number_of refusal.reason)) + length (decimal refusal.place)
   unfolding refusal_text
   refusal_length = simp length-append (omega arith)
 
-  -- three digits hold a refusal's number
-  pub refusal_most : refusal.number < 2 ^ 8 → refusal.place < 2 ^ 64 → length (refusal_text refusal) ≤ 36
-  refusal_most number place = omega (arith, refusal_length, at_most 2 refusal.number (omega arith), wide refusal.place place)
+  -- two digits hold a reason's number
+  pub refusal_most : refusal.place < 2 ^ 64 → length (refusal_text refusal) ≤ 35
+  refusal_most place = omega (arith, refusal_length, at_most 1 (number_of refusal.reason) (number_bound refusal.reason), wide refusal.place place)

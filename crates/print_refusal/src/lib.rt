@@ -12,7 +12,8 @@ pub fn lay_refusal(page: &mut [u8], at: usize, refusal: Refusal) -> usize
     requires { at + length (refusal_text refusal) ≤ length page.old }
     ensures { Lays page.old at (refusal_text refusal) result page.new }
 {
-    let numbered = print_page::lay_figure(page, at, b"refused ", refusal.number as u64);
+    let number = u64::from(refusal.reason.number());
+    let numbered = print_page::lay_figure(page, at, b"refused ", number);
     let placed = print_page::lay_figure(page, numbered, b" at ", refusal.place as u64);
     print_page::lay_word(page, placed, b"\n")
 }
