@@ -72,15 +72,15 @@ pub fn drained(book: &[u8], line: usize, month: usize) -> bool
 }
 
 fn line_field(book: &[u8], line: usize, entry: Field) -> Option<u64>
-    requires { (Valid book.now) × (line ≤ lines) × (entry.0 + entry.1 ≤ record_bytes) × (entry.1 ≤ 8) }
-    ensures { result ≡ seen_at book.now (slot_of ln (line ∷ [])) entry.0 entry.1 }
+    requires { (Valid book.now) × (line ≤ lines) × (entry.at + entry.wide ≤ record_bytes) × (entry.wide ≤ 8) }
+    ensures { result ≡ seen_at book.now (slot_of ln (line ∷ [])) entry.at entry.wide }
 {
     book_slots::read(book, record_table::line_slot(line), entry)
 }
 
 fn line_number(book: &[u8], line: usize, entry: Field) -> u64
-    requires { (Valid book.now) × (line ≤ lines) × (entry.0 + entry.1 ≤ record_bytes) × (entry.1 ≤ 8) }
-    ensures { result ≡ number_at book.now (slot_of ln (line ∷ []) * record_bytes + entry.0) entry.1 }
+    requires { (Valid book.now) × (line ≤ lines) × (entry.at + entry.wide ≤ record_bytes) × (entry.wide ≤ 8) }
+    ensures { result ≡ number_at book.now (slot_of ln (line ∷ []) * record_bytes + entry.at) entry.wide }
 {
     book_slots::field(book, record_table::line_slot(line), entry)
 }

@@ -70,23 +70,23 @@ pub fn destroyed(book: &[u8], month: usize, device: usize) -> Option<u64>
 
 // One field of the slot of a mark and its key.
 fn year_field(book: &[u8], entry: Field) -> Option<u64>
-    requires { (Valid book.now) × (entry.0 + entry.1 ≤ record_bytes) × (entry.1 ≤ 8) }
-    ensures { result ≡ seen_at book.now (slot_of yr []) entry.0 entry.1 }
+    requires { (Valid book.now) × (entry.at + entry.wide ≤ record_bytes) × (entry.wide ≤ 8) }
+    ensures { result ≡ seen_at book.now (slot_of yr []) entry.at entry.wide }
 {
     read(book, record_table::year_slot(), entry)
 }
 
 fn project_field(book: &[u8], month: usize, entry: Field) -> Option<u64>
-    requires { (Valid book.now) × (month ≤ months) × (entry.0 + entry.1 ≤ record_bytes) × (entry.1 ≤ 8) }
-    ensures { result ≡ seen_at book.now (slot_of pe (month ∷ [])) entry.0 entry.1 }
+    requires { (Valid book.now) × (month ≤ months) × (entry.at + entry.wide ≤ record_bytes) × (entry.wide ≤ 8) }
+    ensures { result ≡ seen_at book.now (slot_of pe (month ∷ [])) entry.at entry.wide }
 {
     read(book, record_table::project_slot(month), entry)
 }
 
 #[tactic(auto, unfolding(crate::specs::Field::seen_at))]
 pub fn read(book: &[u8], slot: usize, entry: Field) -> Option<u64>
-    requires { (Valid book.now) × (slot < slots) × (entry.0 + entry.1 ≤ record_bytes) × (entry.1 ≤ 8) }
-    ensures { result ≡ seen_at book.now slot entry.0 entry.1 }
+    requires { (Valid book.now) × (slot < slots) × (entry.at + entry.wide ≤ record_bytes) × (entry.wide ≤ 8) }
+    ensures { result ≡ seen_at book.now slot entry.at entry.wide }
 {
     filled(book, slot).then(|| field(book, slot, entry))
 }
@@ -101,10 +101,10 @@ pub fn filled(book: &[u8], slot: usize) -> bool
 
 // The number in a slot, filled or not: 0 where it is empty.
 pub fn field(book: &[u8], slot: usize, entry: Field) -> u64
-    requires { (Valid book.now) × (slot < slots) × (entry.0 + entry.1 ≤ record_bytes) × (entry.1 ≤ 8) }
-    ensures { result ≡ number_at book.now (slot * record_bytes + entry.0) entry.1 }
+    requires { (Valid book.now) × (slot < slots) × (entry.at + entry.wide ≤ record_bytes) × (entry.wide ≤ 8) }
+    ensures { result ≡ number_at book.now (slot * record_bytes + entry.at) entry.wide }
 {
-    number_bytes::number(book, slot * record_table::RECORD + entry.0, entry.1)
+    number_bytes::number(book, slot * record_table::RECORD + entry.at, entry.wide)
 }
 
 // A temperature's slot as a signed number, filled or not: 0 where it is empty.

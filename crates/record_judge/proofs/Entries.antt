@@ -1,18 +1,19 @@
--- No field of a record is outside its range where each one is in it, and the other way round: entries all stand inside a record. Assumes nothing.
-use mathlib.Core.Path.{◌≡◌, refl, ap}
+-- No field of a record is outside its range where each one is in it, and the other way round. Assumes nothing.
+use mathlib.Core.Path.{◌≡◌, refl, sym, ap}
 use mathlib.Core.Bool.{Bool, true, false, cond, ◌&&◌}
 use mathlib.Core.List.{List, [], ◌∷◌}
-use Prim.Native.Nat.{ℕ, ◌+◌, ◌*◌, ◌≤◌, ◌<◌}
+use Prim.Native.Nat.{ℕ, ◌+◌, ◌*◌, ◌≤◌}
 use native.Mathlib.Omega.{arith}
 use borrow.Author.Tests.{leb-true}
-use lib.Dec.{T, leb, ltb, ltb→lt}
-use lib.ListN.{length, get_or}
-use Rattle.laws.proofs.Table.{left, right, each, at}
-use Rattle.record_table.specs.Table.{from, Entry, zeros, field, table, entries_of, after_mark}
+use lib.Dec.{leb}
+use lib.ListN.{get_or}
+use Rattle.std.specs.Prelude.{Option, None, Some}
+use Rattle.std.specs.Option.{option_or}
+use Rattle.std.proofs.lemmas.Option.{none-some}
+use Rattle.record_table.specs.Table.{from, Entry, zeros, field}
 use Rattle.number_bytes.specs.Number.{number_at}
 use Rattle.record_fields.specs.Entry.{in_range, outside_at}
-use Rattle.record_judge.specs.Defaults.{defaults_entries}
-use Rattle.record_judge.specs.Record.{nowhere, outside_in}
+use Rattle.record_judge.specs.Record.{outside_in}
 
 -- each field, from an offset on, is in its range
 abbrev pub Ranged : ℕ → List Entry → List ℕ → Type 0
@@ -20,40 +21,24 @@ Ranged at [] r = Unit {0}
 Ranged at (zeros n ∷ es) r = Ranged (at + n) es r
 Ranged at (field wide range ∷ es) r = (in_range range r (number_at r at wide) ≡ true) × Ranged (at + wide) es r
 
--- each field, from an offset on, starts inside the record
-inside : ℕ → List Entry → Bool
-inside at [] = true
-inside at (zeros n ∷ es) = inside (at + n) es
-inside at (field wide range ∷ es) = ltb at nowhere && inside (at + wide) es
+-- none is outside where each is in its range, and only there
+spared : (b : Bool) (at : ℕ) (later : Option ℕ) → option_or (cond b None (Some at)) later ≡ None → (b ≡ true) × (later ≡ None)
+spared true at later h = (refl, h)
+spared false at later h = absurd (none-some at (sym h))
 
-spared : (b : Bool) (later at : ℕ) → T (ltb at nowhere) → nowhere ≤ cond b later at → (b ≡ true) × (nowhere ≤ later)
-spared true later at t h = (refl, h)
-spared false later at t h = let z : ⊥ = omega (arith, ltb→lt at nowhere t) in absurd z
+pub ranged : (at : ℕ) (es : List Entry) (r : List ℕ) → outside_in at es r ≡ None → Ranged at es r
+unfolding outside_in outside_at
+ranged at [] r h = tt
+ranged at (zeros n ∷ es) r h = ranged (at + n) es r h
+ranged at (field wide range ∷ es) r h =
+    let s = spared (in_range range r (number_at r at wide)) at (outside_in (at + wide) es r) h in
+    (s.0, ranged (at + wide) es r s.1)
 
-ranged : (at : ℕ) (es : List Entry) (r : List ℕ) → T (inside at es) → nowhere ≤ outside_in at es r → Ranged at es r
-unfolding inside outside_in outside_at
-ranged at [] r t h = tt
-ranged at (zeros n ∷ es) r t h = ranged (at + n) es r t h
-ranged at (field wide range ∷ es) r t h =
-    let s = spared (in_range range r (number_at r at wide)) (outside_in (at + wide) es r) at (left (ltb at nowhere) (inside (at + wide) es) t) h in
-    (s.0, ranged (at + wide) es r (right (ltb at nowhere) (inside (at + wide) es) t) s.1)
-
--- and where each is in its range, none is outside
-pub none_outside : (at : ℕ) (es : List Entry) (r : List ℕ) → Ranged at es r → outside_in at es r ≡ nowhere
+pub none_outside : (at : ℕ) (es : List Entry) (r : List ℕ) → Ranged at es r → outside_in at es r ≡ None
 unfolding outside_in outside_at
 none_outside at [] r g = refl
 none_outside at (zeros n ∷ es) r g = none_outside (at + n) es r g
 none_outside at (field wide range ∷ es) r g = simp g.0 (none_outside (at + wide) es r g.1)
-
--- one test over the whole table
-pub each_ranged : (row : ℕ) → row < length table → (r : List ℕ) → nowhere ≤ outside_in after_mark (entries_of row) r → Ranged after_mark (entries_of row) r
-unfolding inside each
-each_ranged row h r = ranged after_mark (entries_of row) r (at (λ n. inside after_mark (entries_of n)) (length table) tt row h)
-
--- and a defaults line's
-pub defaults_ranged : (r : List ℕ) → nowhere ≤ outside_in after_mark (defaults_entries r) r → Ranged after_mark (defaults_entries r) r
-unfolding inside
-defaults_ranged r = ranged after_mark (defaults_entries r) r tt
 
 -- what a range of whole numbers says of a number, and of a byte
 pub both : (a b : Bool) → (a && b) ≡ true → (a ≡ true) × (b ≡ true)

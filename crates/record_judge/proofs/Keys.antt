@@ -16,7 +16,7 @@ use Rattle.record_judge.specs.declared.Change.TheVariants.{Put, Empty}
 use Rattle.record_judge.proofs.Taken.{Taken, never_empties}
 use Rattle.record_judge.proofs.StoredBytes.{stored_line, stored_itself, taken}
 use Rattle.record_judge.proofs.Defaults.{defaults_rowless, line_row, line_key}
-use Rattle.record_judge.proofs.Entries.{Ranged, each_ranged, within_byte}
+use Rattle.record_judge.proofs.Entries.{Ranged, ranged, within_byte}
 
 -- the bytes of a key whose entries, with some after them, are in their ranges
 module _ (after : List Entry) where
@@ -47,7 +47,7 @@ after_key row = (get_or table row no_row).after
 -- of a record that is taken
 module _ (r : List ℕ) (k : ℕ) (t : Taken r k) where
   pub fields : Ranged after_mark (entries_of (row_of r)) r
-  fields = each_ranged (row_of r) t.row r t.ranged
+  fields = ranged after_mark (entries_of (row_of r)) r t.ranged
 
   pub there : Among (row_of r) k
   unfolding key_of

@@ -4,28 +4,28 @@
 use mathlib.Core.Path.{◌≡◌, refl, sym, subst}
 use mathlib.Core.Bool.{Bool, true, false}
 use mathlib.Core.List.{List, Memᴰ}
-use Prim.Native.Nat.{ℕ, ◌≤◌, ◌<◌}
-use borrow.Author.Tests.{ltb-true, ltb-false, eqb-true, eqb-false}
+use Prim.Native.Nat.{ℕ, ◌<◌}
+use borrow.Author.Tests.{ltb-true, eqb-true, eqb-false}
 use lib.Dec.{eqb, ltb}
 use lib.ListN.{length}
-use Rattle.std.specs.Prelude.{Result, Ok, Err}
+use Rattle.std.specs.Prelude.{Option, None, Some, Result, Ok, Err}
 use Rattle.laws.proofs.Picking.{picked}
 use Rattle.refusals.specs.Refusal.{posting_order}
 use Rattle.refusals.specs.declared.Refusal.{Refusal}
 use Rattle.record_table.specs.Table.{table, ln, entries_of, record_bytes, after_mark}
 use Rattle.record_table.specs.Slot.{slot_of}
 use Rattle.record_judge.specs.Defaults.{is_defaults, defaults_entries}
-use Rattle.record_judge.specs.Record.{nowhere, outside_in, row_of, key_of, verdict, judged_as, judged}
+use Rattle.record_judge.specs.Record.{outside_in, row_of, key_of, verdict, judged_as, judged}
 use Rattle.record_judge.specs.declared.Change.{Change}
 use Rattle.record_judge.specs.declared.Change.TheVariants.{Put, Empty}
-use Rattle.record_judge.proofs.Entries.{Ranged, defaults_ranged}
+use Rattle.record_judge.proofs.Entries.{Ranged, ranged}
 use Rattle.record_judge.proofs.Marks.{short, as_defaults, as_row}
 
 -- a record of the table that is put into slot k
 pub record Taken (r : List ℕ) (k : ℕ) : Type 0 where
   pub long : length r ≡ record_bytes
   pub row : row_of r < length table
-  pub ranged : nowhere ≤ outside_in after_mark (entries_of (row_of r)) r
+  pub ranged : outside_in after_mark (entries_of (row_of r)) r ≡ None
   pub slot : slot_of (row_of r) (key_of (row_of r) r) ≡ k
 
 -- what is so of a record that is put there, by whether it is a defaults line
@@ -38,22 +38,18 @@ So r (Err x) = Memᴰ x.reason posting_order
 So r (Ok (Put k)) = (length r ≡ record_bytes) × PutBy (is_defaults r) r k
 So r (Ok (Empty k)) = ⊥
 
-by_verdict : (r : List ℕ) (nonzero outside slot : ℕ) → (nowhere ≤ outside → So r (Ok (Put slot))) → So r (verdict nonzero outside slot)
+by_verdict : (r : List ℕ) (nonzero outside : Option ℕ) (slot : ℕ) → (outside ≡ None → So r (Ok (Put slot))) → So r (verdict nonzero outside slot)
 unfolding So verdict
-by_verdict r nonzero outside slot put =
-    picked (So r) (ltb nonzero nowhere)
-    (λ zero. Memᴰ.tail (Memᴰ.tail (Memᴰ.head refl)))
-    (λ zero.
-    picked (So r) (ltb outside nowhere)
-    (λ field. Memᴰ.tail (Memᴰ.tail (Memᴰ.tail (Memᴰ.head refl))))
-    (λ field. put (ltb-false _ _ field)))
+by_verdict r (Some place) outside slot put = Memᴰ.tail (Memᴰ.tail (Memᴰ.head refl))
+by_verdict r None (Some place) slot put = Memᴰ.tail (Memᴰ.tail (Memᴰ.tail (Memᴰ.head refl)))
+by_verdict r None None slot put = put refl
 
 module _ (r : List ℕ) (long : length r ≡ record_bytes) where
-  put_defaults : is_defaults r ≡ true → nowhere ≤ outside_in after_mark (defaults_entries r) r → So r (Ok (Put (slot_of ln (key_of ln r))))
+  put_defaults : is_defaults r ≡ true → outside_in after_mark (defaults_entries r) r ≡ None → So r (Ok (Put (slot_of ln (key_of ln r))))
   unfolding So PutBy
-  put_defaults its inside = (long, subst (λ (b : Bool). PutBy b r (slot_of ln (key_of ln r))) (sym its) (defaults_ranged r inside, refl))
+  put_defaults its inside = (long, subst (λ (b : Bool). PutBy b r (slot_of ln (key_of ln r))) (sym its) (ranged after_mark (defaults_entries r) r inside, refl))
 
-  put_row : is_defaults r ≡ false → ltb (row_of r) (length table) ≡ true → nowhere ≤ outside_in after_mark (entries_of (row_of r)) r → So r (Ok (Put (slot_of (row_of r) (key_of (row_of r) r))))
+  put_row : is_defaults r ≡ false → ltb (row_of r) (length table) ≡ true → outside_in after_mark (entries_of (row_of r)) r ≡ None → So r (Ok (Put (slot_of (row_of r) (key_of (row_of r) r))))
   unfolding So PutBy
   put_row other row inside =
       let t : Taken r (slot_of (row_of r) (key_of (row_of r) r)) = record { long = long; row = ltb-true _ _ row; ranged = inside; slot = refl } in

@@ -1,6 +1,7 @@
 -- What a record does, judged alone (01, "The records", "Refusal numbers"; 02, (i)): it is refused, 1 to 4, or it puts bytes into the slot of its key.
 -- Assumes nothing.
-use Rattle.std.specs.Prelude.{ℕ, suc, ◌+◌, Result, Ok, Err}
+use Rattle.std.specs.Prelude.{ℕ, suc, ◌+◌, Option, None, Some, Result, Ok, Err}
+use Rattle.std.specs.Option.{option_or}
 use mathlib.Core.{Bool.cond, List.List, List.[], List.◌∷◌}
 use lib.{Dec.eqb, Dec.ltb, ListN.length, ListN.get_or}
 use Rattle.record_table.specs.Table.{Entry, zeros, field, Row, table, ln, highest_of, entries_of, record_bytes, after_mark}
@@ -13,21 +14,17 @@ use Rattle.record_defaults.specs.StandsFor.{stands_for}
 use Rattle.record_judge.specs.Defaults.{is_defaults, defaults_entries}
 use Rattle.record_judge.specs.declared.Change.{Change, TheVariants.Put}
 
--- the place of what is not found: past the record's last byte
-abbrev pub nowhere : ℕ
-nowhere = record_bytes
-
 -- the lowest offset of a zero byte that is not 0, among the entries from an offset on
-unfoldable pub nonzero_in : ℕ → List Entry → List ℕ → ℕ
-nonzero_in at [] r = nowhere
-nonzero_in at (zeros n ∷ es) r = nonzero_at r at n (nonzero_in (at + n) es r)
+unfoldable pub nonzero_in : ℕ → List Entry → List ℕ → Option ℕ
+nonzero_in at [] r = None
+nonzero_in at (zeros n ∷ es) r = option_or (nonzero_at r at n) (nonzero_in (at + n) es r)
 nonzero_in at (field wide range ∷ es) r = nonzero_in (at + wide) es r
 
 -- the offset of the first field outside its range, among the entries from an offset on
-unfoldable pub outside_in : ℕ → List Entry → List ℕ → ℕ
-outside_in at [] r = nowhere
+unfoldable pub outside_in : ℕ → List Entry → List ℕ → Option ℕ
+outside_in at [] r = None
 outside_in at (zeros n ∷ es) r = outside_in (at + n) es r
-outside_in at (field wide range ∷ es) r = outside_at r at wide range (outside_in (at + wide) es r)
+outside_in at (field wide range ∷ es) r = option_or (outside_at r at wide range) (outside_in (at + wide) es r)
 
 -- the bytes of a key from an offset on, one for each highest value
 unfoldable pub key_in : ℕ → List ℕ → List ℕ → List ℕ
@@ -53,10 +50,10 @@ unfoldable pub entries_for : List ℕ → List Entry
 entries_for r = cond (is_defaults r) (defaults_entries r) (entries_of (row_of r))
 
 -- a zero byte that is not 0 is refused at its offset; else a field outside its range is, at its offset; else the record is put into its slot
-unfoldable pub verdict : ℕ → ℕ → ℕ → Result Change Refusal
-verdict nonzero outside slot =
-    cond (ltb nonzero nowhere) (Err (refusal NotZero nonzero))
-    (cond (ltb outside nowhere) (Err (refusal OutOfRange outside)) (Ok (Put slot)))
+unfoldable pub verdict : Option ℕ → Option ℕ → ℕ → Result Change Refusal
+verdict (Some place) outside slot = Err (refusal NotZero place)
+verdict None (Some place) slot = Err (refusal OutOfRange place)
+verdict None None slot = Ok (Put slot)
 
 -- a record judged by its entries, for the slots of a row; and by a row of the table
 abbrev pub judged_by : List Entry → ℕ → List ℕ → Result Change Refusal

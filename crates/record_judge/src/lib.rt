@@ -1,5 +1,5 @@
 // A record alone: its mark, its zero bytes and its fields; and what it does, where nothing is wrong with them.
-#![tactic(auto)]
+#![tactic(auto, unfolding(record_table::specs::Slot::count, record_table::specs::Slot::total, record_table::specs::Slot::slot_of, record_fields::specs::Entry::in_range, record_fields::specs::Entry::outside_at, crate::specs::Record::nonzero_in, crate::specs::Record::outside_in, crate::specs::Record::key_in, crate::specs::Record::key_of, crate::specs::Record::verdict, crate::specs::Record::judged_as, crate::specs::Keyed::key_outside, crate::specs::Keyed::keyed, crate::specs::Keyed::livestock_outside))]
 
 pub mod rows;
 
@@ -10,21 +10,19 @@ ghost use Rattle.record_fields.specs.Entry.{outside_at};
 ghost use Rattle.record_defaults.specs.Tables.{livestock_count, Livestock, lowest_state, highest_state};
 ghost use Rattle.record_defaults.specs.StandsFor.{state_at};
 ghost use Rattle.record_judge.specs.Defaults.{is_defaults, defaults_entries};
-ghost use Rattle.record_judge.specs.Record.{nowhere, outside_in, verdict, judged_by, judged_as, judged};
+ghost use Rattle.record_judge.specs.Record.{outside_in, verdict, judged_by, judged_as, judged};
 ghost use Rattle.record_judge.specs.Keyed.{keyed, livestock_outside};
 
 use record_fields::Field;
 use record_table::{One, Two};
 use refusals::{Reason, Refusal};
 
-// The width of a mark, the offsets of the key's bytes after it, and the place that stands for "not found".
+// The width of a mark, and the offsets of the key's bytes after it.
 const MARK: usize = 2;
 
 const FIRST_KEY: usize = 2;
 
 const SECOND_KEY: usize = 3;
-
-const NOWHERE: usize = record_table::RECORD;
 
 // The system that is anaerobic.
 const ANAEROBIC: u8 = 0;
@@ -65,45 +63,46 @@ pub fn is_defaults(posted: &[u8]) -> bool
     number_bytes::number(posted, 0, MARK) == rows::LD
 }
 
-// A function for each mark. It looks at the last entry first, so that an earlier place replaces a later one, and at its key last of all.
+// A function for each mark. The first entry's place goes before a later one's, and the key's before them all.
 fn judge_yr(posted: &[u8]) -> Result<Change, Refusal>
     requires { length posted.now ≡ record_bytes }
     ensures { result ≡ judged_as yr posted.now }
 {
-    let zero = record_fields::nonzero(posted, rows::YR_ZEROS, NOWHERE);
-    let month = record_fields::outside(posted, rows::YR_FIRST_MONTH, NOWHERE);
-    let year = record_fields::outside(posted, rows::YR_FIRST_YEAR, month);
-    verdict_on(zero, year, record_table::year_slot())
+    let zero = record_fields::nonzero(posted, rows::YR_ZEROS);
+    let year = record_fields::outside(posted, rows::YR_FIRST_YEAR);
+    let month = record_fields::outside(posted, rows::YR_FIRST_MONTH);
+    verdict_on(zero, year.or(month), record_table::year_slot())
 }
 
 fn judge_ln(posted: &[u8]) -> Result<Change, Refusal>
     requires { length posted.now ≡ record_bytes }
     ensures { result ≡ judged_as ln posted.now }
 {
-    let second = record_fields::nonzero(posted, rows::LN_SECOND_ZERO, NOWHERE);
-    let zero = record_fields::nonzero(posted, rows::LN_FIRST_ZERO, second);
+    let first = record_fields::nonzero(posted, rows::LN_FIRST_ZERO);
+    let zero = first.or(record_fields::nonzero(posted, rows::LN_SECOND_ZERO));
     keyed_by_one(posted, record_table::LN, zero, line_outside(posted))
 }
 
-fn line_outside(posted: &[u8]) -> usize
+fn line_outside(posted: &[u8]) -> Option<usize>
     requires { length posted.now ≡ record_bytes }
     ensures { result ≡ outside_in 3 (drop 1 (entries_of ln)) posted.now }
 {
+    let system = record_fields::outside(posted, rows::LN_SYSTEM);
+    let category = record_fields::outside(posted, rows::LN_CATEGORY);
+    let solids = record_fields::outside(posted, rows::LN_TABLE_SOLIDS);
+    let mass = record_fields::outside(posted, rows::LN_MASS);
+    let share = record_fields::outside(posted, rows::LN_SHARE);
+    let b0 = record_fields::outside(posted, rows::LN_B0);
     let conversion = conversion_outside(posted, rows::LN_CONVERSION_FACTOR_AT);
-    let b0 = record_fields::outside(posted, rows::LN_B0, conversion);
-    let share = record_fields::outside(posted, rows::LN_SHARE, b0);
-    let mass = record_fields::outside(posted, rows::LN_MASS, share);
-    let solids = record_fields::outside(posted, rows::LN_TABLE_SOLIDS, mass);
-    let category = record_fields::outside(posted, rows::LN_CATEGORY, solids);
-    record_fields::outside(posted, rows::LN_SYSTEM, category)
+    system.or(category.or(solids.or(mass.or(share.or(b0.or(conversion))))))
 }
 
 fn judge_hd(posted: &[u8]) -> Result<Change, Refusal>
     requires { length posted.now ≡ record_bytes }
     ensures { result ≡ judged_as hd posted.now }
 {
-    let zero = record_fields::nonzero(posted, rows::HD_ZEROS, NOWHERE);
-    let head = record_fields::outside(posted, rows::HD_HEAD, NOWHERE);
+    let zero = record_fields::nonzero(posted, rows::HD_ZEROS);
+    let head = record_fields::outside(posted, rows::HD_HEAD);
     keyed_by_two(posted, record_table::HD, zero, head)
 }
 
@@ -111,8 +110,8 @@ fn judge_tp(posted: &[u8]) -> Result<Change, Refusal>
     requires { length posted.now ≡ record_bytes }
     ensures { result ≡ judged_as tp posted.now }
 {
-    let last = record_fields::nonzero(posted, rows::TP_LAST_ZEROS, NOWHERE);
-    let zero = record_fields::nonzero(posted, rows::TP_FIRST_ZERO, last);
+    let first = record_fields::nonzero(posted, rows::TP_FIRST_ZERO);
+    let zero = first.or(record_fields::nonzero(posted, rows::TP_LAST_ZEROS));
     keyed_by_one(posted, record_table::TP, zero, temperature_outside(posted))
 }
 
@@ -120,27 +119,32 @@ fn judge_dr(posted: &[u8]) -> Result<Change, Refusal>
     requires { length posted.now ≡ record_bytes }
     ensures { result ≡ judged_as dr posted.now }
 {
-    let zero = record_fields::nonzero(posted, rows::DR_ZEROS, NOWHERE);
-    keyed_by_two(posted, record_table::DR, zero, NOWHERE)
+    let zero = record_fields::nonzero(posted, rows::DR_ZEROS);
+    keyed_by_two(posted, record_table::DR, zero, None)
 }
 
 fn judge_pe(posted: &[u8]) -> Result<Change, Refusal>
     requires { length posted.now ≡ record_bytes }
     ensures { result ≡ judged_as pe posted.now }
 {
-    let zero = record_fields::nonzero(posted, rows::PE_ZERO, NOWHERE);
-    let project = record_fields::outside(posted, rows::PE_PROJECT_CO2, NOWHERE);
-    let baseline = record_fields::outside(posted, rows::PE_BASELINE_CO2, project);
-    let methane = record_fields::outside(posted, rows::PE_PROJECT_METHANE, baseline);
-    keyed_by_one(posted, record_table::PE, zero, methane)
+    let zero = record_fields::nonzero(posted, rows::PE_ZERO);
+    let methane = record_fields::outside(posted, rows::PE_PROJECT_METHANE);
+    let baseline = record_fields::outside(posted, rows::PE_BASELINE_CO2);
+    let project = record_fields::outside(posted, rows::PE_PROJECT_CO2);
+    keyed_by_one(
+        posted,
+        record_table::PE,
+        zero,
+        methane.or(baseline.or(project)),
+    )
 }
 
 fn judge_mt(posted: &[u8]) -> Result<Change, Refusal>
     requires { length posted.now ≡ record_bytes }
     ensures { result ≡ judged_as mt posted.now }
 {
-    let zero = record_fields::nonzero(posted, rows::MT_ZEROS, NOWHERE);
-    let destroyed = record_fields::outside(posted, rows::MT_DESTROYED, NOWHERE);
+    let zero = record_fields::nonzero(posted, rows::MT_ZEROS);
+    let destroyed = record_fields::outside(posted, rows::MT_DESTROYED);
     keyed_by_two(posted, record_table::MT, zero, destroyed)
 }
 
@@ -149,32 +153,33 @@ fn judge_ld(posted: &[u8]) -> Result<Change, Refusal>
     requires { length posted.now ≡ record_bytes }
     ensures { result ≡ judged_by (defaults_entries posted.now) ln posted.now }
 {
-    let last = record_fields::nonzero(posted, rows::LD_LAST_ZEROS, NOWHERE);
-    let zero = record_fields::nonzero(posted, rows::LD_FIRST_ZERO, last);
+    let first = record_fields::nonzero(posted, rows::LD_FIRST_ZERO);
+    let zero = first.or(record_fields::nonzero(posted, rows::LD_LAST_ZEROS));
     keyed_by_one(posted, record_table::LN, zero, defaults_outside(posted))
 }
 
-fn defaults_outside(posted: &[u8]) -> usize
+fn defaults_outside(posted: &[u8]) -> Option<usize>
     requires { length posted.now ≡ record_bytes }
     ensures { result ≡ outside_in 3 (drop 1 (defaults_entries posted.now)) posted.now }
 {
+    let system = record_fields::outside(posted, rows::LN_SYSTEM);
+    let category = record_fields::outside(posted, rows::LN_CATEGORY);
+    let share = record_fields::outside(posted, rows::LD_SHARE);
     let conversion = conversion_outside(posted, record_defaults::CONVERSION_FACTOR_AT);
-    let share = record_fields::outside(posted, rows::LD_SHARE, conversion);
-    let livestock = livestock_outside(posted, share);
-    let category = record_fields::outside(posted, rows::LN_CATEGORY, livestock);
-    record_fields::outside(posted, rows::LN_SYSTEM, category)
+    let livestock = livestock_outside(posted, share.or(conversion));
+    system.or(category.or(livestock))
 }
 
 // A livestock that Table A.2 lacks is outside whatever the state; one that it has tells which states there are.
-fn livestock_outside(posted: &[u8], later: usize) -> usize
+fn livestock_outside(posted: &[u8], later: Option<usize>) -> Option<usize>
     requires { length posted.now ≡ record_bytes }
     ensures { result ≡ livestock_outside posted.now later }
 {
     let livestock = posted[record_defaults::LIVESTOCK_AT];
     if !is_livestock(livestock) {
-        return record_defaults::LIVESTOCK_AT;
+        return Some(record_defaults::LIVESTOCK_AT);
     }
-    record_fields::outside(posted, state_field(livestock), later)
+    record_fields::outside(posted, state_field(livestock)).or(later)
 }
 
 fn is_livestock(livestock: u8) -> bool
@@ -185,7 +190,7 @@ fn is_livestock(livestock: u8) -> bool
 
 fn state_field(livestock: u8) -> Field
     requires { Livestock livestock }
-    ensures { (result.0 ≡ state_at) × (result.1 ≡ 1) × (result.2 ≡ lowest_state livestock) × (result.3 ≡ highest_state livestock) }
+    ensures { (result.at ≡ state_at) × (result.wide ≡ 1) × (result.low ≡ lowest_state livestock) × (result.high ≡ highest_state livestock) }
 {
     if record_defaults::asks_state(livestock) {
         return rows::LD_STATE;
@@ -195,33 +200,55 @@ fn state_field(livestock: u8) -> Field
 
 // A record whose key has one byte, or two, each from 1 on: by the place of a zero byte that is not 0, and that of a field after the key that is outside its
 // range.
-fn keyed_by_one(posted: &[u8], key: One, nonzero: usize, outside: usize) -> Result<Change, Refusal>
+fn keyed_by_one(
+    posted: &[u8],
+    key: One,
+    nonzero: Option<usize>,
+    outside: Option<usize>,
+) -> Result<Change, Refusal>
     requires { (length posted.now ≡ record_bytes) × (key.0 < 2 ^ 32) }
     ensures { result ≡ keyed key.0 (key.1 ∷ []) posted.now nonzero outside }
 {
-    let first = record_fields::outside(posted, Field(FIRST_KEY, 1, 1, key.1 as u64), outside);
+    let first = record_fields::outside(posted, key_field(FIRST_KEY, key.1));
     verdict_on(
         nonzero,
-        first,
+        first.or(outside),
         record_table::one_slot(key, key_byte(posted[FIRST_KEY])),
     )
 }
 
-fn keyed_by_two(posted: &[u8], key: Two, nonzero: usize, outside: usize) -> Result<Change, Refusal>
+fn keyed_by_two(
+    posted: &[u8],
+    key: Two,
+    nonzero: Option<usize>,
+    outside: Option<usize>,
+) -> Result<Change, Refusal>
     requires { (length posted.now ≡ record_bytes) × (key.0 < 2 ^ 32) × (key.2 < 256) }
     ensures { result ≡ keyed key.0 (key.1 ∷ key.2 ∷ []) posted.now nonzero outside }
 {
-    let second = record_fields::outside(posted, Field(SECOND_KEY, 1, 1, key.2 as u64), outside);
-    let first = record_fields::outside(posted, Field(FIRST_KEY, 1, 1, key.1 as u64), second);
+    let first = record_fields::outside(posted, key_field(FIRST_KEY, key.1));
+    let second = record_fields::outside(posted, key_field(SECOND_KEY, key.2));
     verdict_on(
         nonzero,
-        first,
+        first.or(second.or(outside)),
         record_table::two_slot(
             key,
             key_byte(posted[FIRST_KEY]),
             key_byte(posted[SECOND_KEY]),
         ),
     )
+}
+
+// A byte of a key counts from 1.
+fn key_field(at: usize, most: usize) -> Field
+    ensures { (result.at ≡ at) × (result.wide ≡ 1) × (result.low ≡ 1) × (result.high ≡ most) }
+{
+    Field {
+        at,
+        wide: 1,
+        low: 1,
+        high: most as u64,
+    }
 }
 
 fn key_byte(byte: u8) -> usize
@@ -231,32 +258,35 @@ fn key_byte(byte: u8) -> usize
 }
 
 // Refusal 3 goes before refusal 4 (01, "Refusal numbers").
-fn verdict_on(nonzero: usize, outside: usize, slot: usize) -> Result<Change, Refusal>
+fn verdict_on(
+    nonzero: Option<usize>,
+    outside: Option<usize>,
+    slot: usize,
+) -> Result<Change, Refusal>
     ensures { result ≡ verdict nonzero outside slot }
 {
-    if nonzero < NOWHERE {
-        return Err(Reason::NotZero.at(nonzero));
+    if let Some(zero) = nonzero {
+        return Err(Reason::NotZero.at(zero));
     }
-    if outside < NOWHERE {
-        return Err(Reason::OutOfRange.at(outside));
+    if let Some(place) = outside {
+        return Err(Reason::OutOfRange.at(place));
     }
     Ok(Change::Put(slot))
 }
 
-// The offset of a line's conversion factor that is outside its range, or the place that stands for "not found".
-fn conversion_outside(posted: &[u8], at: usize) -> usize
+// The offset of a line's conversion factor, if it is outside its range.
+fn conversion_outside(posted: &[u8], at: usize) -> Option<usize>
     requires { (length posted.now ≡ record_bytes) × (at + 2 ≤ record_bytes) }
-    ensures { result ≡ outside_at posted.now at 2 (unless 3 10000) nowhere }
+    ensures { result ≡ outside_at posted.now at 2 (unless 3 10000) }
 {
     record_fields::outside(
         posted,
-        Field(
+        Field {
             at,
-            rows::CONVERSION_FACTOR_BYTES,
-            0,
-            most_conversion(posted[rows::LN_SYSTEM_AT]),
-        ),
-        NOWHERE,
+            wide: rows::CONVERSION_FACTOR_BYTES,
+            low: 0,
+            high: most_conversion(posted[rows::LN_SYSTEM_AT]),
+        },
     )
 }
 
@@ -270,8 +300,8 @@ fn most_conversion(system: u8) -> u64
     rows::MOST_CONVERSION_FACTOR
 }
 
-// The offset of a temperature that is outside its range, or the place that stands for "not found".
-fn temperature_outside(posted: &[u8]) -> usize
+// The offset of a temperature that is outside its range.
+fn temperature_outside(posted: &[u8]) -> Option<usize>
     requires { length posted.now ≡ record_bytes }
     ensures { result ≡ outside_in 3 (drop 1 (entries_of tp)) posted.now }
 {
@@ -281,9 +311,9 @@ fn temperature_outside(posted: &[u8]) -> usize
         rows::TP_TEMPERATURE_BYTES,
     ));
     if allowed(tenths) {
-        return NOWHERE;
+        return None;
     }
-    rows::TP_TEMPERATURE_AT
+    Some(rows::TP_TEMPERATURE_AT)
 }
 
 fn allowed(tenths: i16) -> bool
