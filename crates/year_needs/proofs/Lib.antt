@@ -1,5 +1,4 @@
 pub mod Determined
 pub mod Ranges
 pub mod Passing
-pub mod Lacking
 pub mod Lined

@@ -6,7 +6,7 @@ use mathlib.Core.List.{List}
 use mathlib.Core.Path.{refl, sym, ap, ◌≡◌, ◌∙◌}
 use native.Mathlib.Decide.{ℕ_discrete}
 use native.Mathlib.Omega.{arith}
-use borrow.Author.Tests.{eq-eqb, ne_eqb, eqb-true}
+use borrow.Author.Tests.{eq-eqb, ne_eqb, eqb-true, leb-false}
 use lib.Dec.{eqb}
 use lib.ListN.{get_or, set, replicate, length-set, length-replicate}
 use lib.Seq.{get_or-set_same, get_or-set_other}
@@ -15,12 +15,11 @@ use Rattle.laws.specs.Counting.{some}
 use Rattle.record_table.specs.Table.{lines, categories}
 use Rattle.book.specs.Valid.{Valid}
 use Rattle.book_herd.specs.Herd.{category_of}
-use Rattle.book_slots.specs.declared.Seen.{Seen}
-use Rattle.book_slots.specs.declared.Seen.TheVariants.{Nothing, Value}
+use Rattle.std.specs.Prelude.{Option, Some, None}
 use Rattle.year_months.specs.Series.{amount_of}
 use Rattle.year_needs.specs.Asks.{Lined}
 use Rattle.year_needs.specs.Complete.{uncounted, headless}
-use Rattle.year_needs.proofs.Passing.{found_one, some_more, some_passes}
+use Rattle.year_needs.proofs.Passing.{found_one, some_more, some_passes, each_fails}
 use Rattle.year_needs.proofs.Ranges.{category_least, category_most}
 
 not_both : {A : Type 0} {flag : Bool} → flag ≡ false → flag ≡ true → A
@@ -41,12 +40,12 @@ lined_none book =
       each = λ category h. no_flag (categories + 1) category ∙ sym (none_passes 0 (has book category) (λ line low high. absurd (omega arith)));
     }
 
-valued : (seen : Seen) (category : ℕ) → 1 ≤ category → amount_of seen ≡ category → seen ≡ Value category
-valued Nothing category low e = absurd (omega arith)
-valued (Value x) category low e = ap Value e
+valued : (seen : Option ℕ) (category : ℕ) → 1 ≤ category → amount_of seen ≡ category → seen ≡ Some category
+valued None category low e = absurd (omega arith)
+valued (Some x) category low e = ap Some e
 
 -- one line more: the flag of its category's number is set
-module _ (book : List ℕ) (line : ℕ) {flags : List Bool} {number : ℕ} {seen : Seen} (low : 1 ≤ line) (read : seen ≡ category_of book line)
+module _ (book : List ℕ) (line : ℕ) {flags : List Bool} {number : ℕ} {seen : Option ℕ} (low : 1 ≤ line) (read : seen ≡ category_of book line)
     (is : number ≡ amount_of seen) (small : number ≤ categories) (lined : Lined book (line - 1) flags) where
   its : number ≡ amount_of (category_of book line)
   its = is ∙ ap amount_of read
@@ -84,26 +83,37 @@ and_right true b e = e
 and_right false b e = not_both refl e
 
 module _ (book : List ℕ) (m : ℕ) {flags : List Bool} (lined : Lined book lines flags) where
-  pub headless_found :
-      (category : ℕ) → 1 ≤ category → category ≤ categories → (get_or flags category false && uncounted book m (Value category)) ≡ true → true ≡ headless book m
+  headless_found :
+      (category : ℕ) → 1 ≤ category → category ≤ categories → (get_or flags category false && uncounted book m (Some category)) ≡ true → true ≡ headless book m
   unfolding headless
   headless_found category low high both =
-      let lacks = uncounted book m (Value category) in
+      let lacks = uncounted book m (Some category) in
       let flag = and_left (get_or flags category false) lacks both in
       let one = found_one (has book category) lines (sym (lined.each category high) ∙ flag) in
       let its = valued (category_of book one.at) category low (eqb-true _ _ one.passes) in
       some_passes (λ line. uncounted book m (category_of book line)) lines one.at one.low one.high
       (ap (uncounted book m) its ∙ and_right (get_or flags category false) lacks both)
 
-  module _ (v : Valid book) (none : (k : ℕ) → 1 ≤ k → k ≤ categories → (get_or flags k false && uncounted book m (Value k)) ≡ false) where
-    counted : (line : ℕ) → 1 ≤ line → line ≤ lines → (seen : Seen) → category_of book line ≡ seen → uncounted book m seen ≡ false
-    counted line low high Nothing e = refl
-    counted line low high (Value k) e =
+  module _ (v : Valid book) (none : (k : ℕ) → 1 ≤ k → k ≤ categories → (get_or flags k false && uncounted book m (Some k)) ≡ false) where
+    counted : (line : ℕ) → 1 ≤ line → line ≤ lines → (seen : Option ℕ) → category_of book line ≡ seen → uncounted book m seen ≡ false
+    counted line low high None e = refl
+    counted line low high (Some k) e =
         let most = category_most book v line k high e in
         let flag = lined.each k most ∙ sym (some_passes (has book k) lines line low high (eq-eqb _ _ (ap amount_of e))) in
-        sym (ap (λ (b : Bool). b && uncounted book m (Value k)) flag) ∙ none k (category_least book v line k high e) most
+        sym (ap (λ (b : Bool). b && uncounted book m (Some k)) flag) ∙ none k (category_least book v line k high e) most
 
-    pub headless_none : false ≡ headless book m
+    headless_none : false ≡ headless book m
     unfolding headless
     headless_none =
         sym (none_passes lines (λ line. uncounted book m (category_of book line)) (λ line low high. counted line low high (category_of book line) refl))
+
+  -- so a month lacks a head count where a flagged category does
+  pub headless_flagged : Valid book → some categories (λ category. get_or flags category false && uncounted book m (Some category)) ≡ headless book m
+  headless_flagged v = go (some categories flagged) refl
+    where
+      flagged : ℕ → Bool
+      flagged category = get_or flags category false && uncounted book m (Some category)
+
+      go : (b : Bool) → some categories flagged ≡ b → b ≡ headless book m
+      go true e = let one = found_one flagged categories e in headless_found one.at one.low one.high one.passes
+      go false e = headless_none v (λ k low high. each_fails flagged categories (leb-false _ _ e) k low high)

@@ -1,11 +1,17 @@
 -- A search stops no later than at a number that passes, and at one that does, so that where it comes to the end none passes.
 -- Assumes nothing.
-use Prim.Native.Nat.{ℕ, zero, suc, ◌+◌, ◌≤◌, ◌<◌}
+use Prim.Native.Nat.{ℕ, zero, suc, ◌+◌, ◌-◌, ◌≤◌, ◌<◌}
 use mathlib.Core.Bool.{Bool, true, false, cond}
 use mathlib.Core.Path.{refl, sym, ap, ◌≡◌, ◌∙◌}
 use native.Mathlib.Decide.{dec_lt}
 use native.Mathlib.Omega.{arith}
 use borrow.Author.Tests.{le-leb, leb-true, leb-false}
+use lib.Dec.{leb}
+use lib.ListN.{length}
+use Rattle.std.specs.Prelude.{Option, Some, None, MatchOption}
+use Rattle.std.specs.Bool.{MatchBool}
+use Rattle.std.specs.List.{AllWithin, HoldsAt, range_with_len}
+use Rattle.std.proofs.lemmas.List.FromFn.{length-range_with_len, get_or-range_with_len}
 use Rattle.laws.proofs.Counting.{Each, begins, none_passes, search_between}
 use Rattle.laws.specs.Counting.{first_from, first, some}
 
@@ -77,3 +83,39 @@ module _ (test : ℕ → Bool) where
 
   pub some_more : (n : ℕ) → test (suc n) ≡ false → some n test ≡ some (suc n) test
   some_more n fails = by_some n fails (some n test) refl
+
+  -- where one passes and none before it does, it is the first
+  first_here : (n i : ℕ) → 1 ≤ i → i ≤ n → test i ≡ true → ((k : ℕ) → 1 ≤ k → k < i → test k ≡ false) → first n test ≡ i
+  first_here n i low high passes before = go (dec_lt (first n test) i)
+    where
+      go : Dec (first n test < i) → first n test ≡ i
+      go (yes earlier) =
+          let some_low : 1 ≤ first n test = omega (arith, (search_between (n + 1) 1 test (omega arith)).0, begins n test) in
+          let z : ◌≡◌ {A = Bool} true false = sym (first_passes 1 n (omega arith)) ∙ before (first n test) some_low earlier in
+          let e : ◌≡◌ {A = ℕ} 0 1 = cc in
+          absurd (omega arith)
+      go (no later) = omega (arith, no_later 1 n i low (omega arith) passes)
+
+  -- what the library's `find` and `any` say of the numbers from 1 to n
+  pub lowest_found :
+      (n past : ℕ) (found : Option ℕ) → past ≡ n + 1 →
+      MatchOption found ((k : ℕ) → 1 ≤ k → k < past → test k ≡ false)
+      (λ i. (1 ≤ i) × (i < past) × (test i ≡ true) × ((k : ℕ) → 1 ≤ k → k < i → test k ≡ false)) →
+      found ≡ cond (leb (first n test) n) (Some (first n test)) None
+  lowest_found n past None end none = rw (none_passes n test (λ i low high. none i low (omega arith)))
+  lowest_found n past (Some i) end this =
+      rw (first_here n i this.0 (omega arith) this.2 this.3, le-leb i n (omega arith))
+
+  pub any_found :
+      (n : ℕ) (found : Bool) →
+      MatchBool found
+      ((k : ℕ) × (k < length (range_with_len 1 n)) × HoldsAt (λ i. test i ≡ true) (range_with_len 1 n) k)
+      (AllWithin (λ i. test i ≡ false) (range_with_len 1 n) 0 (length (range_with_len 1 n))) →
+      found ≡ some n test
+  any_found n true this =
+      let inside : this.0 < n = omega (arith, length-range_with_len 1 n) in
+      some_passes n (1 + this.0) (omega arith) (omega arith) (ap test (sym (get_or-range_with_len 1 n this.0 0 inside)) ∙ this.2 0)
+  any_found n false none =
+      sym (none_passes n test (λ i low high.
+      let there : 1 + (i - 1) ≡ i = omega arith in
+      ap test (sym (get_or-range_with_len 1 n (i - 1) 0 (omega arith) ∙ there)) ∙ none (i - 1) 0 (omega arith) (omega (arith, length-range_with_len 1 n))))

@@ -1,150 +1,96 @@
 // The records that a year has to have before it is stated: refusal 8.
 #![tactic(auto)]
 
-ghost use Rattle.std.specs.Prelude.{◌≡◌, ◌&&◌, ◌≤◌};
+ghost use Rattle.std.specs.Prelude.{◌≡◌, ◌&&◌, ◌≤◌, Some};
 ghost use Rattle.record_table.specs.Table.{lines, categories, months};
 ghost use Rattle.book.specs.Valid.{Valid};
-ghost use Rattle.book_slots.specs.declared.Seen.TheVariants.{Value};
 ghost use Rattle.year_months.specs.Asks.{InPeriod};
-ghost use Rattle.year_needs.specs.Complete.{any_line, unmeasured, uncounted, headless, lacks, lacking_of, complete_of, place_of};
+ghost use Rattle.year_needs.specs.Complete.{any_line, uncounted, headless, lacks, lacking_month, complete_of};
 ghost use Rattle.year_needs.specs.Asks.{Lined};
 
-use book_slots::Warmth;
-
-// Whether a year has its records, or the place of the refusal.
-#[derive(Clone, Copy)]
-pub enum Completeness {
-    Complete,
-    Lacking(usize),
-}
-
-impl Completeness {
-    // The place of what lacks: 0 where nothing does.
-    pub fn place(self) -> usize
-        ensures { result ≡ place_of self }
-    {
-        match self {
-            Completeness::Lacking(place) => place,
-            Completeness::Complete => 0,
-        }
-    }
-}
+use refusals::{Reason, Refusal};
 
 // Room for a flag at each category number. A line that is not in the book has number 0.
 const CATEGORY_FLAGS: usize = record_table::CATEGORIES + 1;
 
 // Whether a year has the records that it needs. YR and a line are looked at first, and then each month
 // through the year's end.
-pub fn complete(book: &[u8], year: usize) -> Completeness
+#[tactic(auto, unfolding(crate::specs::Complete::complete_of, crate::specs::Complete::lacking_month))]
+pub fn complete(book: &[u8], year: usize) -> Result<(), Refusal>
     requires valid { Valid book.now }
     requires in_period { InPeriod year }
     ensures { result ≡ complete_of book.now year }
 {
-    if !year_months::is_filled(book_slots::first_year(book)) {
-        return Completeness::Lacking(0);
+    if book_slots::first_year(book).is_none() || !any_line(book) {
+        return Err(Reason::Lacking.at(0));
     }
-    if !any_line(book) {
-        return Completeness::Lacking(0);
+    match first_lacking(book, year, &lined_categories(book)) {
+        Some(month) => Err(Reason::Lacking.at(month)),
+        None => Ok(()),
     }
-    let lined = lined_categories(book);
-    let month = first_lacking(book, year, &lined);
-    if month <= year_months::months_through(year) {
-        return Completeness::Lacking(month);
-    }
-    Completeness::Complete
 }
 
 fn any_line(book: &[u8]) -> bool
     requires { Valid book.now }
     ensures { result ≡ any_line book.now }
 {
-    for line in 1..=record_table::LINES {
-        if year_months::is_filled(book_herd::category(book, line)) {
-            return true;
-        }
-    }
-    false
+    (1..record_table::LINES + 1).any(|line| book_herd::category(book, line).is_some())
 }
 
 // Which categories have a line: looked at once, and not again in each month.
+#[tactic(auto, using(crate::proofs::Ranges::category_amount))]
 fn lined_categories(book: &[u8]) -> [bool; CATEGORY_FLAGS]
     requires { Valid book.now }
     ensures { Lined book.now lines result }
 {
     let mut lined = [false; CATEGORY_FLAGS];
     for line in 1..=record_table::LINES {
-        let category = year_months::amount(book_herd::category(book, line)) as usize;
+        let category = book_herd::category(book, line).unwrap_or(0) as usize;
         lined[category] = true;
     }
     lined
 }
 
-// The lowest month that lacks a record, or the one past the year.
-fn first_lacking(book: &[u8], year: usize, lined: &[bool]) -> usize
+// The lowest month through the year's end that lacks a record.
+fn first_lacking(book: &[u8], year: usize, lined: &[bool]) -> Option<usize>
     requires valid { Valid book.now }
     requires in_period { InPeriod year }
     requires lined { Lined book.now lines lined.now }
-    ensures { result ≡ lacking_of book.now year }
+    ensures { result ≡ lacking_month book.now year }
 {
     let past = year_months::months_through(year) + 1;
-    for month in 1..past {
-        if is_lacking(book, year, month, lined) {
-            return month;
-        }
-    }
-    past
+    (1..past).find(|month| is_lacking(book, year, *month, lined))
 }
 
+#[tactic(auto, unfolding(crate::specs::Complete::lacks))]
 fn is_lacking(book: &[u8], year: usize, month: usize, lined: &[bool]) -> bool
     requires valid { Valid book.now }
     requires in_period { InPeriod year }
-    requires month_le_months { month ≤ months }
+    requires month_within { month ≤ months }
     requires lined { Lined book.now lines lined.now }
     ensures { result ≡ lacks book.now year month }
 {
-    if is_unmeasured(book_slots::temperature(book, month)) {
-        return true;
-    }
-    if is_headless(book, month, lined) {
-        return true;
-    }
-    if month <= year_months::months_before(year) {
-        return false;
-    }
-    !year_months::is_filled(book_slots::project_methane(book, month))
-}
-
-fn is_unmeasured(warmth: Warmth) -> bool
-    ensures { result ≡ unmeasured warmth }
-{
-    match warmth {
-        Warmth::Unknown => true,
-        Warmth::Tenths(_) => false,
-    }
+    book_slots::temperature(book, month).is_none()
+        || is_headless(book, month, lined)
+        || year_months::months_before(year) < month
+            && book_slots::project_methane(book, month).is_none()
 }
 
 // Whether the category of a line has no head count in the month.
 fn is_headless(book: &[u8], month: usize, lined: &[bool]) -> bool
     requires valid { Valid book.now }
-    requires month_le_months { month ≤ months }
+    requires month_within { month ≤ months }
     requires lined { Lined book.now lines lined.now }
     ensures { result ≡ headless book.now month }
 {
-    for category in 1..=record_table::CATEGORIES {
-        if is_uncounted(book, category, month, lined[category]) {
-            return true;
-        }
-    }
-    false
+    (1..CATEGORY_FLAGS).any(|category| is_uncounted(book, category, month, lined[category]))
 }
 
 fn is_uncounted(book: &[u8], category: usize, month: usize, lined: bool) -> bool
     requires valid { Valid book.now }
-    requires category_le_categories { (category ≤ categories) × (month ≤ months) }
-    ensures { result ≡ (lined && uncounted book.now month (Value category)) }
+    requires category_within { category ≤ categories }
+    requires month_within { month ≤ months }
+    ensures { result ≡ (lined && uncounted book.now month (Some category)) }
 {
-    if !lined {
-        return false;
-    }
-    !year_months::is_filled(book_herd::head(book, category, month))
+    lined && book_herd::head(book, category, month).is_none()
 }

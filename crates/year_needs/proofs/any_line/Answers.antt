@@ -1,40 +1,21 @@
--- `year_needs::any_line` meets its contract: the search passes each line that is not there.
--- Assumes nothing.
-use mathlib.Core.Path.{ap, sym, ◌∙◌}
-use native.Mathlib.Omega.{arith}
-use Rattle.laws.proofs.Counting.{begins, none_found, one_found, passed}
+-- `year_needs::any_line` meets its contract: what `any` says of the lines. Assumes nothing.
+use Prim.Native.Nat.{◌+◌}
+use mathlib.Core.Bool.{true, false}
+use mathlib.Core.Path.{refl, ◌≡◌}
+use borrow.Author.Rules.{rules}
+use borrow.Author.Tests.{tests}
+use Rattle.std.proofs.lemmas.Iterator.{cases_from_any, YieldsList-from_range}
 use Rattle.record_table.specs.Table.{lines}
+use Rattle.book_herd.specs.Herd.{category_of}
 use Rattle.year_months.specs.Series.{filled}
 use Rattle.year_needs.specs.Complete.{any_line}
+use Rattle.year_needs.proofs.Passing.{any_found}
 use Rattle.year_needs.proofs.any_line.Goals as goal
-
-pub loop-line-init : goal.loop-line-init
-loop-line-init c = (omega arith, omega arith, begins lines _)
-
-pub category-requires : goal.category-requires
-category-requires c = (c.requires, omega arith)
-
-pub returns-then-is_filled : goal.returns-then-is_filled
-unfolding any_line
-returns-then-is_filled c =
-    let loop = c.loop-line in
-    one_found lines loop.line _ loop.invariant.2 (omega arith) (ap filled (sym c.category.ensures) ∙ sym
-    c.is_filled.ensures ∙ c.if-is_filled.true)
-
-pub overflow_step-line : goal.overflow_step-line
-overflow_step-line c = omega arith
-
-pub loop-line-smaller : goal.loop-line-smaller
-loop-line-smaller c = omega arith
-
-pub loop-line-preserved : goal.loop-line-preserved
-loop-line-preserved c = let loop = c.loop-line in (
-  omega arith,
-  omega arith,
-  passed lines loop.line _ loop.invariant.2 (omega arith) (ap filled (sym c.category.ensures) ∙ sym
-      c.is_filled.ensures ∙ c.if-is_filled.false),
-)
 
 pub returns : goal.returns
 unfolding any_line
-returns c = none_found lines c.loop-line.line _ c.loop-line.invariant.2 (omega arith)
+returns c =
+    let book = c.args.book.now in
+    any_found (λ line. filled (category_of book line)) lines c.any.result
+    (cases_from_any _ _ _ (λ line. filled (category_of book line) ≡ true) (λ line. filled (category_of book line) ≡ false) c.any.ensures.ran
+    (YieldsList-from_range 1 (lines + 1) lines refl refl) (λ x q k. search (rules, tests)) (λ x q k. search (rules, tests)))
