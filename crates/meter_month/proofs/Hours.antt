@@ -1,30 +1,14 @@
--- The hours of a month: what the match on their number says, what lists that are as long as a month are, and the steps of a loop over them.
+-- The hours of a month: there are no more than those of the longest, and lists that are as long as a month are as long as its states.
 -- Assumes nothing.
-use Prim.Native.Nat.{ℕ, ◌+◌, ◌-◌, ◌≤◌, ◌<◌}
+use Prim.Native.Nat.{ℕ, ◌≤◌}
 use mathlib.Core.Bool.{Bool, true, false, ◌&&◌, ◌||◌, false≢true}
-use mathlib.Core.Logic.{◌⊎◌, inl, inr}
-use mathlib.Core.Path.{◌≡◌, refl, sym, subst}
+use mathlib.Core.Path.{◌≡◌, refl}
 use native.Mathlib.Omega.{arith}
-use borrow.Author.Tests.{ne_eqb, eqb-true}
+use borrow.Author.Tests.{eqb-true}
 use lib.Dec.{eqb}
 use Rattle.meter_series.specs.Series.{most_hours}
 use Rattle.meter_month.specs.Month.{is_month, are_hours, are_feet_hours}
 use Rattle.meter_month.specs.Asks.{AsLong, AllAsLong}
-
-pub month_yes : (n : ℕ) → (n ≡ 672) ⊎ ((n ≡ 696) ⊎ ((n ≡ 720) ⊎ (n ≡ 744))) → true ≡ is_month n
-month_yes n (inl e) = rw e
-month_yes n (inr (inl e)) = rw e
-month_yes n (inr (inr (inl e))) = rw e
-month_yes n (inr (inr (inr e))) = rw e
-
-pub month_no : (n : ℕ) → ((n ≡ 672) ⊎ ((n ≡ 696) ⊎ ((n ≡ 720) ⊎ (n ≡ 744))) → ⊥) → false ≡ is_month n
-month_no n h =
-    rw (
-      ne_eqb n 672 (λ e. h (inl e)),
-      ne_eqb n 696 (λ e. h (inr (inl e))),
-      ne_eqb n 720 (λ e. h (inr (inr (inl e)))),
-      ne_eqb n 744 (λ e. h (inr (inr (inr e)))),
-    )
 
 or_most : (a b : Bool) {n : ℕ} → (a ≡ true → n ≤ most_hours) → (b ≡ true → n ≤ most_hours) → (a || b) ≡ true → n ≤ most_hours
 or_most true b p q e = p refl
@@ -59,18 +43,3 @@ as_long f c n e =
 pub all_as_long : (f c t p n : ℕ) → are_feet_hours f c t p n ≡ true → AllAsLong f c t p n
 all_as_long f c t p n e =
     (as_long f c n (and_l (are_hours f c n) (are_hours t p n) e), as_long t p n (and_r (are_hours f c n) (are_hours t p n) e))
-
-module _ {hour hours : ℕ} (inside : hour < hours) where
-  pub reached : hour + 1 ≤ hours
-  reached = omega arith
-
-  pub nearer : hours - (hour + 1) < hours - hour
-  nearer = omega arith
-
--- an hour among those of another list, as long
-pub among : {hour hours others : ℕ} → others ≡ hours → hour < hours → hour < others
-among {hour} e h = subst (λ (n : ℕ). hour < n) (sym e) h
-
--- a list that is written to still holds the month
-pub holds : {hours most size : ℕ} → hours ≤ most → size ≡ most → hours ≤ size
-holds {hours} h e = subst (λ (n : ℕ). hours ≤ n) (sym e) h

@@ -8,18 +8,18 @@ use Rattle.laws.specs.Counting.{sum}
 use Rattle.laws.proofs.Counting.{sum_none, sum_most}
 use Rattle.units.specs.Grams.{methane}
 use Rattle.units.specs.declared.methane.Methane.{Methane}
-use Rattle.meter_series.specs.declared.Value.{Value}
+use Rattle.std.specs.Prelude.{Option}
 use Rattle.meter_series.specs.Series.{amount}
 use Rattle.meter_hour.specs.declared.Kind.{Kind}
 use Rattle.meter_hour.specs.Hour.{hour_of, whole_efficiency}
 use Rattle.meter_hour.specs.Room.{most_flow, most_content}
 use Rattle.meter_hour.proofs.Sizes.{most_grams, hour_most}
-use Rattle.meter_month.specs.Month.{grams_of}
+use Rattle.meter_month.specs.Month.{both_at, grams_of}
 
-module _ (k : Kind) (e : ℕ) (state : ℕ → ℕ) (f c flow content : ℕ → Value) where
+module _ (k : Kind) (e : ℕ) (state : ℕ → ℕ) (f c flow content : ℕ → Option ℕ) where
   -- hour h by itself
   abbrev grams : ℕ → ℕ
-  grams h = hour_of k e (state h) (f h) (c h) (flow h) (content h)
+  grams h = hour_of k e (state h) (both_at f c h) (both_at flow content h)
 
   pub grams_none : 0 ≡ grams_of k e state f c flow content 0
   unfolding grams_of
@@ -39,4 +39,4 @@ module _ (k : Kind) (e : ℕ) (state : ℕ → ℕ) (f c flow content : ℕ → 
     unfolding grams_of
     grams_small n =
         sum_most (λ i. grams (i - 1)) most_grams n
-        (λ i low high. hour_most k e (state (i - 1)) (f (i - 1)) (c (i - 1)) (flow (i - 1)) (content (i - 1)) whole (flows (i - 1)) (contents (i - 1)))
+        (λ i low high. hour_most k e (state (i - 1)) (both_at f c (i - 1)) (both_at flow content (i - 1)) whole (flows (i - 1)) (contents (i - 1)))

@@ -1,79 +1,77 @@
 -- `meter_month::of_hours` meets its contract: each return knows the refusals that were not given before it, and the two arrays, cut at the month's
 -- end, are the series that it recorded.
 -- Assumes nothing.
-use Rattle.std.proofs.Common.{◌≡◌, ℕ, ◌≤◌, List, length, take, refl, sym, subst, arith}
-use native.Mathlib.Nat.{lt_of_lt_of_le}
-use borrow.Author.Tests.{lt-ltb, le-ltb}
-use lib.Ieee.{Float}
-use Rattle.meter_series.specs.declared.Value.{Value}
-use Rattle.meter_series.specs.declared.Value.TheVariants.{Missing}
+use Rattle.std.proofs.Common.{◌≡◌, ℕ, ◌≤◌, List, Option, None, Ok, length, take, refl, sym, ◌∙◌, subst, arith}
+use Rattle.std.proofs.lemmas.Result.{err_from_is_err_and}
+use borrow.Author.Tests.{lt-ltb, le-ltb, ltb-false}
 use Rattle.meter_series.specs.Series.{series, amount, AtMost}
-use Rattle.meter_hour.specs.declared.Hour.{Hour, TheVariants.Taken}
-use Rattle.meter_hour.specs.declared.Kind.{Kind}
+use Rattle.meter_hour.specs.declared.Recorded.{Recorded}
 use Rattle.meter_hour.specs.Hour.{flow_of, content_of}
 use Rattle.meter_hour.specs.Room.{most_flow, most_content}
-use Rattle.meter_month.specs.Month.{recorded, metered_of, hours_of}
-use Rattle.meter_month.specs.Asks.{Holds, hour_in}
-use Rattle.meter_month.proofs.EachKind as Each
+use Rattle.meter_month.specs.declared.meter.Meter.{Meter}
+use Rattle.meter_month.specs.Month.{recorded, first_refused, metered_of, hours_of}
+use Rattle.meter_month.specs.Asks.{Holds, passing_of}
+use Rattle.meter_month.specs.Meters.{kind_of, states_of, hour_in}
+use Rattle.meter_month.proofs.EachKind.{neither, past, states_most, flows_small, contents_small}
 use Rattle.meter_month.proofs.Readings.{cut}
+use Rattle.meter_month.proofs.Passing.{all_pass, month_refused}
 use Rattle.meter_month.proofs.of_hours.Goals as goal
 
--- what each hour recorded, and an array that holds it as far as the month goes, cut at its end
-module _ (kind : Kind) (flows contents temperatures pressures : List Float) (states : List ℕ) where
-  abbrev hour_of : ℕ → Hour
-  hour_of = hour_in kind flows contents temperatures pressures states
+-- an array that holds what each hour recorded as far as the month goes, cut at its end
+module _ (meter : Meter) where
+  abbrev hours : ℕ
+  hours = length (states_of meter)
 
   series_is :
-      (part : Hour → Value) → part (Taken Missing Missing) ≡ Missing → (cells : List ℕ) (passed : ℕ) →
-      length states ≤ length cells → length states ≤ passed → Holds cells passed (recorded part hour_of) →
-      series (take (length states) cells) ≡ recorded part hour_of
-  series_is part none cells passed long all held =
-      cut part hour_of (length states) none (Each.past kind flows contents temperatures pressures states) cells long
-      (λ h b. held h (lt_of_lt_of_le b all))
+      (part : Option Recorded → Option ℕ) → part neither ≡ None → (cells : List (Option ℕ)) → hours ≤ length cells → hours ≤ first_refused (hour_in meter) hours →
+      Holds cells (first_refused (hour_in meter) hours) (recorded part (hour_in meter)) → series (take hours cells) ≡ recorded part (hour_in meter)
+  series_is part none cells long all held =
+      cut part (hour_in meter) hours none (past meter) cells long (λ h b. held h (omega (arith, b, all)))
 
-  flows_most : (cells : List ℕ) → series cells ≡ recorded flow_of hour_of → AtMost (most_flow kind) cells
-  flows_most cells e h =
-      subst (λ (s : ℕ → Value). amount (s h) ≤ most_flow kind) (sym e) (Each.flows_small kind flows contents temperatures pressures states h)
+  flows_most : (cells : List (Option ℕ)) → series cells ≡ recorded flow_of (hour_in meter) → AtMost (most_flow (kind_of meter)) cells
+  flows_most cells e h = subst (λ (s : ℕ → Option ℕ). amount (s h) ≤ most_flow (kind_of meter)) (sym e) (flows_small meter h)
 
-  contents_most : (cells : List ℕ) → series cells ≡ recorded content_of hour_of → AtMost most_content cells
-  contents_most cells e h =
-      subst (λ (s : ℕ → Value). amount (s h) ≤ most_content) (sym e) (Each.contents_small kind flows contents temperatures pressures states h)
+  contents_most : (cells : List (Option ℕ)) → series cells ≡ recorded content_of (hour_in meter) → AtMost most_content cells
+  contents_most cells e h = subst (λ (s : ℕ → Option ℕ). amount (s h) ≤ most_content) (sym e) (contents_small meter h)
+
+  all_passed : (u : Unit {0}) → Ok u ≡ passing_of (hour_in meter) hours → hours ≤ first_refused (hour_in meter) hours
+  all_passed u e = ltb-false (first_refused (hour_in meter) hours) hours (all_pass (hour_in meter) hours u e)
 
 pub returns-then-efficiency-gt-WHOLE_EFFICIENCY : goal.returns-then-efficiency-gt-WHOLE_EFFICIENCY
 unfolding hours_of
-returns-then-efficiency-gt-WHOLE_EFFICIENCY c = rw (lt-ltb _ _ c.if-efficiency-gt-WHOLE_EFFICIENCY.true) c.refused.ensures
+returns-then-efficiency-gt-WHOLE_EFFICIENCY c = rw (lt-ltb _ _ c.if-efficiency-gt-WHOLE_EFFICIENCY.true, c.at.ensures)
 
-pub returns-then-hour-hours : goal.returns-then-hour-hours
+pub returns-in_err-record_hours : goal.returns-in_err-record_hours
 unfolding hours_of
-returns-then-hour-hours c =
-    rw (
-      le-ltb _ _ c.if-efficiency-gt-WHOLE_EFFICIENCY.false,
-      ← c.record_hours-hour.ensures.value,
-      lt-ltb _ _ c.if-hour-hours.true,
-    )
-    c.refused-then-hour-hours.ensures
+returns-in_err-record_hours c =
+    let meter = c.args.meter.now in
+    let given = err_from_is_err_and c.from_residual.result c.from_residual.ensures.1 in
+    rw (given.1, given.2, le-ltb _ _ c.if-efficiency-gt-WHOLE_EFFICIENCY.false)
+    (month_refused (hour_in meter) (hours meter) c.in_err-record_hours.field-0.0 _ (sym c.in_err-record_hours.was ∙ c.record_hours.ensures.passes))
 
 pub destroyed-requires-clause-at_most : goal.destroyed-requires-clause-at_most
 destroyed-requires-clause-at_most c =
-    let a = c.args in
-    let n = length a.states.now in
-    let r = c.record_hours-hour in (
-      flows_most a.kind a.flows.now a.contents.now a.temperatures.now a.pressures.now a.states.now (take n r.new.counted)
-          (series_is a.kind a.flows.now a.contents.now a.temperatures.now a.pressures.now a.states.now flow_of refl r.new.counted r.result (omega arith) c.if-hour-hours.false r.ensures.holds),
-      contents_most a.kind a.flows.now a.contents.now a.temperatures.now a.pressures.now a.states.now (take n r.new.hundredths)
-          (series_is a.kind a.flows.now a.contents.now a.temperatures.now a.pressures.now a.states.now content_of refl r.new.hundredths r.result (omega arith) c.if-hour-hours.false r.ensures.holds_2),
+    let meter = c.args.meter.now in
+    let r = c.record_hours in
+    let all = all_passed meter c.in_ok-record_hours.field-0 (sym c.in_ok-record_hours.was ∙ r.ensures.passes) in
+    rw (c.states-states.ensures, c.kind.ensures) (
+      flows_most meter (take (hours meter) r.new.flows) (series_is meter flow_of refl r.new.flows (omega (arith, states_most meter c.requires)) all r.ensures.flows_recorded),
+      contents_most meter (take (hours meter) r.new.contents) (series_is meter content_of refl r.new.contents (omega (arith, states_most meter c.requires)) all r.ensures.contents_recorded),
     )
 
 pub returns : goal.returns
 unfolding hours_of metered_of
 returns c =
-    let a = c.args in
-    let r = c.record_hours-hour in
+    let meter = c.args.meter.now in
+    let r = c.record_hours in
+    let passed = sym c.in_ok-record_hours.was ∙ r.ensures.passes in
+    let all = all_passed meter c.in_ok-record_hours.field-0 passed in
     rw (
       le-ltb _ _ c.if-efficiency-gt-WHOLE_EFFICIENCY.false,
-      ← r.ensures.value,
-      le-ltb _ _ c.if-hour-hours.false,
+      all_pass (hour_in meter) (hours meter) c.in_ok-record_hours.field-0 passed,
       c.destroyed.ensures,
-      series_is a.kind a.flows.now a.contents.now a.temperatures.now a.pressures.now a.states.now flow_of refl r.new.counted r.result (omega arith) c.if-hour-hours.false r.ensures.holds,
-      series_is a.kind a.flows.now a.contents.now a.temperatures.now a.pressures.now a.states.now content_of refl r.new.hundredths r.result (omega arith) c.if-hour-hours.false r.ensures.holds_2,
+      c.states-states.ensures,
+      c.kind.ensures,
+      series_is meter flow_of refl r.new.flows (omega (arith, states_most meter c.requires)) all r.ensures.flows_recorded,
+      series_is meter content_of refl r.new.contents (omega (arith, states_most meter c.requires)) all r.ensures.contents_recorded,
     )

@@ -1,8 +1,6 @@
 -- `meter_month::sum` meets its contract. The loop's invariant: the total is that of the hours passed.
 -- Assumes nothing.
-use mathlib.Core.Path.{◌≡◌}
-use Prim.Native.Nat.{◌-◌, ◌≤◌}
-use lib.ListN.{length}
+use Rattle.std.proofs.Common.{◌≡◌, ◌≤◌, ◌-◌, length}
 use Rattle.units.specs.Grams.{methane}
 use Rattle.meter_state.specs.State.{state_at}
 use Rattle.meter_series.specs.Series.{series}
@@ -10,7 +8,12 @@ use Rattle.meter_month.specs.Month.{grams_of}
 use Rattle.meter_month.proofs.sum.Given as goal
 
 abbrev pub invariant-loop-hour : goal.invariant-loop-hour
-invariant-loop-hour l = (l.hour ≤ length l.states) × (l.hour-end ≡ length l.states) × (l.total ≡ methane (grams_of l.kind l.efficiency (state_at l.states) (series l.flows) (series l.contents) (series l.filled_flows) (series l.filled_contents) l.hour))
+invariant-loop-hour l =
+    record {
+      to_end : l.hour-end ≡ length l.states;
+      within : l.hour ≤ length l.states;
+      total_passed : l.total ≡ methane (grams_of l.kind l.efficiency (state_at l.states) (series l.recorded.flows.now) (series l.recorded.contents.now) (series l.filled.flows.now) (series l.filled.contents.now) l.hour);
+    }
 
 abbrev pub decreases-loop-hour : goal.decreases-loop-hour
 decreases-loop-hour l = l.hour-end - l.hour
