@@ -18,6 +18,14 @@ const NEIGHBOURS: usize = 4;
 // The hours of an average, of both sides.
 const AVERAGED: u64 = 8;
 
+// A month of hours as filling asks for it: its hours number no more than the longest month's, and no number of it is too large for the sum of eight.
+#[derive(Clone, Copy)]
+struct Month<'a> {
+    hours: &'a [Option<u64>],
+    ghost one_month: { length hours.now ≤ most_hours },
+    ghost at_most: { AtMost most_amount hours.now },
+}
+
 // The series after filling.
 pub fn fill(hours: &[Option<u64>]) -> [Option<u64>; MOST_HOURS]
     requires one_month { length hours.now ≤ most_hours }
@@ -25,120 +33,113 @@ pub fn fill(hours: &[Option<u64>]) -> [Option<u64>; MOST_HOURS]
     ensures result_len { length result ≡ most_hours }
     ensures by_index { (h : ℕ) → series result h ≡ filled (series hours.now) (length hours.now) h }
 {
+    let month = Month { hours };
     let mut out = [None; MOST_HOURS];
     let mut filling = None;
     for (hour, value) in hours.iter().enumerate() {
-        filling = filling_at(hours, hour, *value, filling);
+        filling = month.filling_at(hour, *value, filling);
         out[hour] = value.or(filling);
     }
     out
 }
 
-// What fills the run that a missing hour stands in: it is worked out at the run's first hour, and kept for the others.
-#[tactic(auto, using(crate::proofs::Stepping::start_earlier))]
-fn filling_at(
-    hours: &[Option<u64>],
-    hour: usize,
-    value: Option<u64>,
-    filling: Option<u64>,
-) -> Option<u64>
-    requires hour_of_month { (hour < length hours.now) × (length hours.now ≤ most_hours) }
-    requires at_most { AtMost most_amount hours.now }
-    requires value_stands_there { value ≡ series hours.now hour }
-    requires known_past_start { start_of (series hours.now) hour < hour →
-        filling ≡ fill_from (series hours.now) (length hours.now) (start_of (series hours.now) hour) }
-    ensures { is_recorded value ≡ false →
-        result ≡ fill_from (series hours.now) (length hours.now) (start_of (series hours.now) hour) }
-{
-    if value.is_some() {
-        return filling;
-    }
-    if !is_start(hours, hour) {
-        return filling;
-    }
-    fill_from(hours, hour)
-}
-
-// Whether the run that an hour stands in starts there: the hour before it is recorded, or there is none.
-#[tactic(auto, using(crate::proofs::Stepping::start_first))]
-fn is_start(hours: &[Option<u64>], hour: usize) -> bool
-    ensures { result ≡ eqb (start_of (series hours.now) hour) hour }
-{
-    if hour == 0 {
-        return true;
-    }
-    meter_series::at(hours, hour - 1).is_some()
-}
-
-// What fills the run that starts at an hour; nothing where that hour is recorded.
-#[tactic(auto, using(laws::proofs::Counting::search_between))]
-fn fill_from(hours: &[Option<u64>], start: usize) -> Option<u64>
-    requires start_of_month { (start ≤ length hours.now) × (length hours.now ≤ most_hours) }
-    requires at_most { AtMost most_amount hours.now }
-    ensures { result ≡ fill_from (series hours.now) (length hours.now) start }
-{
-    fill_of(hours, start, end_from(hours, start))
-}
-
-// The first recorded hour from `start` on, or the month's end.
-#[tactic(auto, using(laws::proofs::Counting::search_stops, laws::proofs::Counting::search_passes, laws::proofs::Counting::search_ends))]
-fn end_from(hours: &[Option<u64>], start: usize) -> usize
-    requires { start ≤ length hours.now }
-    ensures { result ≡ end_of (series hours.now) (length hours.now) start }
-{
-    for end in start..hours.len() {
-        if hours[end].is_some() {
-            return end;
+impl Month<'_> {
+    // What fills the run that a missing hour stands in: it is worked out at the run's first hour, and kept for the others.
+    #[tactic(auto, using(crate::proofs::Stepping::start_earlier))]
+    fn filling_at(&self, hour: usize, value: Option<u64>, filling: Option<u64>) -> Option<u64>
+        requires hour_of_month { hour < length self.now.hours.now }
+        requires value_stands_there { value ≡ series self.now.hours.now hour }
+        requires known_past_start { start_of (series self.now.hours.now) hour < hour →
+            filling ≡ fill_from (series self.now.hours.now) (length self.now.hours.now) (start_of (series self.now.hours.now) hour) }
+        ensures { is_recorded value ≡ false →
+            result ≡ fill_from (series self.now.hours.now) (length self.now.hours.now) (start_of (series self.now.hours.now) hour) }
+    {
+        if value.is_some() {
+            return filling;
         }
+        if !self.is_start(hour) {
+            return filling;
+        }
+        self.fill_from(hour)
     }
-    hours.len()
-}
 
-// What fills the run from `start` up to `end`.
-#[tactic(auto, unfolding(crate::specs::Filling::fill_of))]
-fn fill_of(hours: &[Option<u64>], start: usize, end: usize) -> Option<u64>
-    requires run { (start ≤ end) × (end ≤ most_hours) }
-    requires at_most { AtMost most_amount hours.now }
-    ensures { result ≡ fill_of (series hours.now) (length hours.now) start end }
-{
-    let length = end - start;
-    if length < 1 {
-        return None;
+    // Whether the run that an hour stands in starts there: the hour before it is recorded, or there is none.
+    #[tactic(auto, using(crate::proofs::Stepping::start_first))]
+    fn is_start(&self, hour: usize) -> bool
+        ensures { result ≡ eqb (start_of (series self.now.hours.now) hour) hour }
+    {
+        if hour == 0 {
+            return true;
+        }
+        meter_series::at(self.hours, hour - 1).is_some()
     }
-    if LONGEST < length {
-        return None;
-    }
-    average(hours, start, end)
-}
 
-// The average of the neighbours of a run by their sum, rounded down, where each is an hour of the month and recorded.
-#[tactic(auto, unfolding(crate::specs::Filling::average_of))]
-fn average(hours: &[Option<u64>], start: usize, end: usize) -> Option<u64>
-    requires within_month { (start ≤ most_hours) × (end ≤ most_hours) }
-    requires at_most { AtMost most_amount hours.now }
-    ensures { result ≡ average_of (series hours.now) (length hours.now) start end }
-{
-    if start < NEIGHBOURS {
-        return None;
+    // What fills the run that starts at an hour; nothing where that hour is recorded.
+    #[tactic(auto, using(laws::proofs::Counting::search_between))]
+    fn fill_from(&self, start: usize) -> Option<u64>
+        requires { start ≤ length self.now.hours.now }
+        ensures { result ≡ fill_from (series self.now.hours.now) (length self.now.hours.now) start }
+    {
+        self.fill_of(start, self.end_from(start))
     }
-    if hours.len() < end + NEIGHBOURS {
-        return None;
-    }
-    let before = total(hours, start - NEIGHBOURS)?;
-    let after = total(hours, end)?;
-    Some((before + after) / AVERAGED)
-}
 
-// The sum of the four hours from one on, where each is recorded.
-#[tactic(auto, using(crate::proofs::Stepping::total_more, crate::proofs::Stepping::total_none), unfolding(crate::specs::Filling::total_of))]
-fn total(hours: &[Option<u64>], from: usize) -> Option<u64>
-    requires within_month { from ≤ most_hours }
-    requires at_most { AtMost most_amount hours.now }
-    ensures { result ≡ total_of (series hours.now) from neighbours }
-{
-    let mut sum = 0;
-    for i in 0..NEIGHBOURS {
-        sum += meter_series::at(hours, from + i)?;
+    // The first recorded hour from `start` on, or the month's end.
+    #[tactic(auto, using(laws::proofs::Counting::search_stops, laws::proofs::Counting::search_passes, laws::proofs::Counting::search_ends))]
+    fn end_from(&self, start: usize) -> usize
+        requires { start ≤ length self.now.hours.now }
+        ensures { result ≡ end_of (series self.now.hours.now) (length self.now.hours.now) start }
+    {
+        for end in start..self.hours.len() {
+            if self.hours[end].is_some() {
+                return end;
+            }
+        }
+        self.hours.len()
     }
-    Some(sum)
+
+    // What fills the run from `start` up to `end`.
+    #[tactic(auto, unfolding(crate::specs::Filling::fill_of))]
+    fn fill_of(&self, start: usize, end: usize) -> Option<u64>
+        requires { (start ≤ end) × (end ≤ most_hours) }
+        ensures { result ≡ fill_of (series self.now.hours.now) (length self.now.hours.now) start end }
+    {
+        let length = end - start;
+        if length < 1 {
+            return None;
+        }
+        if LONGEST < length {
+            return None;
+        }
+        self.average(start, end)
+    }
+
+    // The average of the neighbours of a run by their sum, rounded down, where each is an hour of the month and recorded.
+    #[tactic(auto, unfolding(crate::specs::Filling::average_of))]
+    fn average(&self, start: usize, end: usize) -> Option<u64>
+        requires { (start ≤ most_hours) × (end ≤ most_hours) }
+        ensures { result ≡ average_of (series self.now.hours.now) (length self.now.hours.now) start end }
+    {
+        if start < NEIGHBOURS {
+            return None;
+        }
+        if self.hours.len() < end + NEIGHBOURS {
+            return None;
+        }
+        let before = self.total(start - NEIGHBOURS)?;
+        let after = self.total(end)?;
+        Some((before + after) / AVERAGED)
+    }
+
+    // The sum of the four hours from one on, where each is recorded.
+    #[tactic(auto, using(crate::proofs::Stepping::total_more, crate::proofs::Stepping::total_none), unfolding(crate::specs::Filling::total_of))]
+    fn total(&self, from: usize) -> Option<u64>
+        requires { from ≤ most_hours }
+        ensures { result ≡ total_of (series self.now.hours.now) from neighbours }
+    {
+        let mut sum = 0;
+        for i in 0..NEIGHBOURS {
+            sum += meter_series::at(self.hours, from + i)?;
+        }
+        Some(sum)
+    }
 }

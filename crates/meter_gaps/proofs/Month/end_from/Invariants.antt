@@ -3,7 +3,7 @@
 use Rattle.std.proofs.Common.{◌≡◌, ◌≤◌, length}
 use Rattle.meter_series.specs.Series.{series}
 use Rattle.meter_gaps.specs.Filling.{end_of}
-use Rattle.meter_gaps.proofs.end_from.Given as goal
+use Rattle.meter_gaps.proofs.Month.end_from.Given as goal
 
 abbrev pub invariant-loop-end : goal.invariant-loop-end
-invariant-loop-end l = (l.end ≤ length l.hours) × (l.end-end ≡ length l.hours) × (end_of (series l.hours) (length l.hours) l.start ≡ end_of (series l.hours) (length l.hours) l.end)
+invariant-loop-end l = (l.end ≤ length l.self.hours.now) × (l.end-end ≡ length l.self.hours.now) × (end_of (series l.self.hours.now) (length l.self.hours.now) l.start ≡ end_of (series l.self.hours.now) (length l.self.hours.now) l.end)

@@ -3,7 +3,7 @@
 use Rattle.std.proofs.Common.{◌≡◌, ◌≤◌, Some}
 use Rattle.meter_series.specs.Series.{series}
 use Rattle.meter_gaps.specs.Filling.{total_of, neighbours}
-use Rattle.meter_gaps.proofs.total.Given as goal
+use Rattle.meter_gaps.proofs.Month.total.Given as goal
 
 abbrev pub invariant-loop-i : goal.invariant-loop-i
-invariant-loop-i l = (l.i ≤ neighbours) × (total_of (series l.hours) l.from l.i ≡ Some l.sum)
+invariant-loop-i l = (l.i ≤ neighbours) × (total_of (series l.self.hours.now) l.from l.i ≡ Some l.sum)
