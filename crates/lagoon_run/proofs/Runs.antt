@@ -1,20 +1,19 @@
 -- A run's code: its totals have room for the next month, a turn of the loop is one month more, and a run depends on its own months alone.
 -- Assumes nothing.
 use Prim.Native.Nat.{ℕ, suc, ◌+◌, ◌-◌, ◌≤◌, ◌<◌}
-use mathlib.Core.Bool.{Bool}
 use mathlib.Core.List.{List}
-use mathlib.Core.Path.{◌≡◌, ap, ◌∙◌}
+use mathlib.Core.Path.{◌≡◌, ap}
 use native.Mathlib.Numerals.{add-one}
 use native.Mathlib.Nat.{mul-le-mul_right}
 use native.Mathlib.Omega.{arith}
-use lib.ListN.{length}
+use lib.ListN.{length, get_or}
 use Rattle.lagoon_month.specs.declared.Month.{Month}
 use Rattle.lagoon_month.specs.declared.Outcome.{Outcome}
 use Rattle.lagoon_month.specs.declared.Standing.{Standing}
 use Rattle.lagoon_run.specs.declared.Totals.{Totals}
 use Rattle.lagoon_factor.specs.Rule.{million}
 use Rattle.lagoon_month.specs.Month.{available_of, outcome_of}
-use Rattle.lagoon_run.specs.Run.{start_of, with_of, run_from, months_of}
+use Rattle.lagoon_run.specs.Run.{with_of, run_from, no_month, months_of}
 use Rattle.lagoon_month.specs.Asks.{entered_most, grams_most}
 use Rattle.lagoon_run.specs.Asks.{RunFits}
 use Rattle.lagoon_run.proofs.Conserved.{conserved, entered_at_most}
@@ -25,44 +24,40 @@ pub record HasRoom (totals : Totals) (month : Month) : Type 0 where
   pub out : totals.degraded.0 + totals.removed.0 + available_of totals.standing month < grams_most
   pub factor : month.factor ≤ million
 
--- before the first month
-pub begins : (months : ℕ → Month) {start : Totals} {standing : Standing} → start ≡ start_of standing → start ≡ run_from start.standing months 0
-unfolding run_from
-begins months begun = rw begun
-
-module _ (standing : Standing) (entered factors : List ℕ) (drained : List Bool) where
+module _ (standing : Standing) (list : List Month) where
   abbrev pub months : ℕ → Month
-  months = months_of entered factors drained
+  months = months_of list
 
-  room : RunFits standing entered factors drained → (i : ℕ) → i < length entered → HasRoom (run_from standing months i) (months (suc i))
+  -- the list counts from 0, and months from 1
+  step : (passed : ℕ) → months (suc passed) ≡ get_or list passed no_month
+  step passed = let e : suc passed - 1 ≡ passed = omega arith in ap (λ (k : ℕ). get_or list k no_month) e
+
+  room : RunFits standing list → (i : ℕ) → i < length list → HasRoom (run_from standing months i) (get_or list i no_month)
   room fits i below =
       omega (
         arith,
         fits.room,
         mul-le-mul_right entered_most below,
-        fits.entry (suc i - 1) (omega arith),
-        fits.factor (suc i - 1) (omega arith),
+        fits.entry i below,
+        fits.factor i below,
         conserved standing months i (λ m low high. fits.factor (m - 1) (omega arith)),
         entered_at_most standing months entered_most i (λ m low high. fits.entry (m - 1) (omega arith)),
       )
 
-  -- a turn of the loop, whose totals count from the standing of those that it started with
-  module _ {start totals : Totals} (begun : start ≡ start_of standing) (passed : ℕ) (is : totals ≡ run_from start.standing months passed) where
-    pub so_far : totals ≡ run_from standing months passed
-    so_far = is ∙ ap (λ (t : Totals). run_from t.standing months passed) begun
+  -- a turn of the loop
+  module _ {totals : Totals} (passed : ℕ) (is : totals ≡ run_from standing months passed) where
+    pub has_room : RunFits standing list → passed < length list → HasRoom totals (get_or list passed no_month)
+    has_room fits below = rw is (room fits passed below)
 
-    pub has_room : {month : Month} → month ≡ months (passed + 1) → RunFits standing entered factors drained → passed < length entered → HasRoom totals month
-    has_room read fits below = rw (so_far, read, add-one passed) (room fits passed below)
-
-    pub one_more : {month : Month} {next : Totals} → month ≡ months (passed + 1) → next ≡ with_of totals month → next ≡ run_from start.standing months (passed + 1)
+    pub one_more : {next : Totals} → next ≡ with_of totals (get_or list passed no_month) → next ≡ run_from standing months (passed + 1)
     unfolding run_from
-    one_more read more = rw (add-one passed, ← is) (rw (read, add-one passed) at more)
+    one_more more = rw (add-one passed, step passed, ← is) more
 
   -- a turn of the loop that keeps the standing alone
-  module _ {at : Standing} (passed : ℕ) (is : at ≡ (run_from standing months passed).standing) {month : Month} (read : month ≡ months (passed + 1)) where
-    pub has_room_at : RunFits standing entered factors drained → passed < length entered → (available_of at month < grams_most) × (month.factor ≤ million)
-    has_room_at fits below = let r = room fits passed below in rw (is, read, add-one passed) (omega (arith, r.out), r.factor)
+  module _ {at : Standing} (passed : ℕ) (is : at ≡ (run_from standing months passed).standing) where
+    pub has_room_at : RunFits standing list → passed < length list → (available_of at (get_or list passed no_month) < grams_most) × ((get_or list passed no_month).factor ≤ million)
+    has_room_at fits below = let r = room fits passed below in rw is (omega (arith, r.out), r.factor)
 
-    pub one_more_at : {outcome : Outcome} → outcome ≡ outcome_of at month → outcome.next ≡ (run_from standing months (passed + 1)).standing
+    pub one_more_at : {outcome : Outcome} → outcome ≡ outcome_of at (get_or list passed no_month) → outcome.next ≡ (run_from standing months (passed + 1)).standing
     unfolding run_from with_of
-    one_more_at told = rw (told, read, is, add-one passed)
+    one_more_at told = rw (told, is, add-one passed, step passed)

@@ -1,7 +1,7 @@
 -- A run of months (01, "The lagoon month"): each month starts from the standing that the month before handed on. Months are numbered from 1, and
 -- `months m` are the figures of month m.
 use Rattle.std.specs.Prelude.{ℕ, zero, suc, ◌+◌, ◌*◌, ◌-◌, get_or}
-use mathlib.Core.{Bool.Bool, Bool.false, List.List}
+use mathlib.Core.{Bool.false, List.List}
 use Rattle.units.specs.Grams.{solids}
 use Rattle.calendar.specs.Days.{months_in_year}
 use Rattle.lagoon_month.specs.{declared.Month.Month, declared.Standing.Standing, Month.empty_of, Month.outcome_of}
@@ -40,11 +40,10 @@ year_of months y =
     let before = months_in_year * (y - 1) in
     run_from (run_of months before).standing (after before months) months_in_year
 
--- months by three lists of what entered, of factors and of drain marks
-abbrev pub months_of : List ℕ → List ℕ → List Bool → ℕ → Month
-months_of entered factors drained m =
-    record {
-      entered = solids (get_or entered (m - 1) 0);
-      factor = get_or factors (m - 1) 0;
-      drained = get_or drained (m - 1) false;
-    }
+-- no month: nothing enters, nothing degrades, nothing is drained
+abbrev pub no_month : Month
+no_month = record { entered = solids 0; factor = 0; drained = false }
+
+-- months by their list
+abbrev pub months_of : List Month → ℕ → Month
+months_of months m = get_or months (m - 1) no_month

@@ -34,62 +34,42 @@ impl Totals {
     }
 
     fn with(self, month: Month) -> Self
-        requires entered_bound { (self.entered.0 + month.entered.0 < grams_most)
+        requires grams_fit { (self.entered.0 + month.entered.0 < grams_most)
             × (self.degraded.0 + self.removed.0 + available_of self.standing month < grams_most) }
-        requires factor_le_million { month.factor ≤ million }
+        requires factor_at_most_one { month.factor ≤ million }
         ensures { result ≡ with_of self month }
     {
-        let standing = self.standing;
-        let outcome = standing.month(month);
-        let next = outcome.next;
-        let entered = self.entered;
-        let degraded = self.degraded;
-        let removed = self.removed;
+        let outcome = self.standing.month(month);
         Totals {
-            entered: entered.plus(month.entered),
-            degraded: degraded.plus(outcome.degraded),
-            removed: removed.plus(outcome.removed),
-            standing: next,
+            entered: self.entered.plus(month.entered),
+            degraded: self.degraded.plus(outcome.degraded),
+            removed: self.removed.plus(outcome.removed),
+            standing: outcome.next,
         }
     }
 }
 
-// The months of three slices, one after the other, from a standing: each starts from what the month
-// before handed on.
-pub fn run(from: Standing, entered: &[u64], factors: &[u64], drained: &[bool]) -> Totals
-    requires { RunFits from entered.now factors.now drained.now }
-    ensures { result ≡ run_from from (months_of entered.now factors.now drained.now)
-        (length entered.now) }
+// The months one after the other, from a standing: each starts from what the month before handed on.
+pub fn run(from: Standing, months: &[Month]) -> Totals
+    requires { RunFits from months.now }
+    ensures { result ≡ run_from from (months_of months.now) (length months.now) }
 {
     let mut totals = Totals::start(from);
-    for passed in 0..entered.len() {
-        totals = totals.with(month_after(entered, factors, drained, passed));
+    for month in months {
+        totals = totals.with(*month);
     }
     totals
 }
 
-// The standing that the same months hand on, where nobody asks for their totals.
-pub fn handed_on(from: Standing, entered: &[u64], factors: &[u64], drained: &[bool]) -> Standing
-    requires { RunFits from entered.now factors.now drained.now }
-    ensures { result ≡ (run_from from (months_of entered.now factors.now drained.now)
-        (length entered.now)).standing }
+// The standing that the same months hand on, where nobody asks for their totals: a loop of its own, since a
+// year walks all months before it, and each would pay for three sums that nobody reads.
+pub fn handed_on(from: Standing, months: &[Month]) -> Standing
+    requires { RunFits from months.now }
+    ensures { result ≡ (run_from from (months_of months.now) (length months.now)).standing }
 {
     let mut standing = from;
-    for passed in 0..entered.len() {
-        let outcome = standing.month(month_after(entered, factors, drained, passed));
-        standing = outcome.next;
+    for month in months {
+        standing = standing.month(*month).next;
     }
     standing
-}
-
-// The figures of the month that follows the first `passed` months.
-fn month_after(entered: &[u64], factors: &[u64], drained: &[bool], passed: usize) -> Month
-    requires { (passed < length entered.now) × (passed < length factors.now) × (passed < length drained.now) }
-    ensures { result ≡ months_of entered.now factors.now drained.now (passed + 1) }
-{
-    Month {
-        entered: Solids::of_grams(entered[passed]),
-        factor: factors[passed],
-        drained: drained[passed],
-    }
 }

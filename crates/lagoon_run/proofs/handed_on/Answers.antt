@@ -1,4 +1,4 @@
--- `lagoon_run::handed_on` meets its contract: after so many months passed the standing is theirs, and has room for the next.
+-- `lagoon_run::handed_on` meets its contract: after so many months the standing is theirs, and has room for the next.
 -- Assumes nothing.
 use mathlib.Core.Path.{refl}
 use native.Mathlib.Omega.{arith}
@@ -6,16 +6,12 @@ use Rattle.lagoon_run.specs.Run.{run_from}
 use Rattle.lagoon_run.proofs.Runs.{has_room_at, one_more_at}
 use Rattle.lagoon_run.proofs.handed_on.Goals as goal
 
-pub loop-passed-init : goal.loop-passed-init
+pub loop-month-init : goal.loop-month-init
 unfolding run_from
-loop-passed-init c = refl
+loop-month-init c = refl
 
-pub month-outcome-requires : goal.month-outcome-requires
-month-outcome-requires c =
-    has_room_at c.args.from c.args.entered.now c.args.factors.now c.args.drained.now c.loop-passed.passed c.loop-passed.invariant
-    c.month_after.ensures c.requires (omega arith)
+pub month-requires : goal.month-requires
+month-requires c = has_room_at c.args.from c.args.months.now c.loop-month.month-index c.loop-month.invariant c.requires (omega arith)
 
-pub loop-passed-preserved : goal.loop-passed-preserved
-loop-passed-preserved c =
-    one_more_at c.args.from c.args.entered.now c.args.factors.now c.args.drained.now c.loop-passed.passed c.loop-passed.invariant
-    c.month_after.ensures c.month-outcome.ensures
+pub loop-month-preserved : goal.loop-month-preserved
+loop-month-preserved c = one_more_at c.args.from c.args.months.now c.loop-month.month-index c.loop-month.invariant c.month.ensures

@@ -8,12 +8,12 @@ use Rattle.lagoon_run.proofs.Totals.with.Goals as goal
 pub plus-requires-2 : goal.plus-requires-2
 plus-requires-2 c =
     let month = c.month-outcome in
-    omega (arith, c.requires, told c.args.self.standing c.args.month month.ensures c.requires.factor_le_million)
+    omega (arith, c.requires, told c.args.self.standing c.args.month month.ensures c.requires.factor_at_most_one)
 
 pub plus-requires-3 : goal.plus-requires-3
 plus-requires-3 c =
     let month = c.month-outcome in
-    omega (arith, c.requires, told c.args.self.standing c.args.month month.ensures c.requires.factor_le_million)
+    omega (arith, c.requires, told c.args.self.standing c.args.month month.ensures c.requires.factor_at_most_one)
 
 pub returns : goal.returns
 unfolding with_of
