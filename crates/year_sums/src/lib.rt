@@ -45,16 +45,12 @@ impl Sums {
         requires { (totals.degraded.0 < grams_most) × (b0 ≤ 100) }
         ensures { result ≡ anaerobic_of totals b0 }
     {
-        let entered = totals.entered;
-        let degraded = totals.degraded;
-        let removed = totals.removed;
-        let standing = totals.standing;
         Sums {
-            entered,
-            degraded,
-            removed,
-            carried: standing.carried(),
-            baseline: degraded.b0_rule(b0, units::POTENTIAL),
+            entered: totals.entered,
+            degraded: totals.degraded,
+            removed: totals.removed,
+            carried: totals.standing.carried(),
+            baseline: totals.degraded.b0_rule(b0, units::POTENTIAL),
         }
     }
 
@@ -62,17 +58,12 @@ impl Sums {
         requires { all_grams self + all_grams other < 2 ^ 64 }
         ensures { result ≡ plus self other }
     {
-        let entered = self.entered;
-        let degraded = self.degraded;
-        let removed = self.removed;
-        let carried = self.carried;
-        let baseline = self.baseline;
         Sums {
-            entered: entered.plus(other.entered),
-            degraded: degraded.plus(other.degraded),
-            removed: removed.plus(other.removed),
-            carried: carried.plus(other.carried),
-            baseline: baseline.plus(other.baseline),
+            entered: self.entered.plus(other.entered),
+            degraded: self.degraded.plus(other.degraded),
+            removed: self.removed.plus(other.removed),
+            carried: self.carried.plus(other.carried),
+            baseline: self.baseline.plus(other.baseline),
         }
     }
 }
