@@ -12,14 +12,15 @@ use record_table::CATEGORIES;
 use year_months::MONTHS_IN_YEAR;
 
 // The sum of the year's twelve heads of each category, first to last. All lines of a category share it.
+#[tactic(auto, using(year_months::proofs::Arrays::array_begins, year_months::proofs::Arrays::array_more, year_months::proofs::Arrays::array_full))]
 pub fn by_category(book: &[u8], year: usize) -> [u64; CATEGORIES]
     requires valid { Valid book.now }
     requires in_period { InPeriod year }
     ensures { HoldsHeads book.now year result }
 {
     let mut heads = [0u64; CATEGORIES];
-    for passed in 0..CATEGORIES {
-        heads[passed] = of_category(book, year, passed + 1);
+    for (passed, sum) in heads.iter_mut().enumerate() {
+        *sum = of_category(book, year, passed + 1);
     }
     heads
 }
@@ -27,7 +28,7 @@ pub fn by_category(book: &[u8], year: usize) -> [u64; CATEGORIES]
 fn of_category(book: &[u8], year: usize, category: usize) -> u64
     requires valid { Valid book.now }
     requires in_period { InPeriod year }
-    requires category_le_categories { category ≤ categories }
+    requires category_within { category ≤ categories }
     ensures { result ≡ heads_of book.now year category }
 {
     let before = year_months::months_before(year);
@@ -41,7 +42,7 @@ fn of_category(book: &[u8], year: usize, category: usize) -> u64
 #[tactic(auto, unfolding(crate::specs::Heads::head_at))]
 fn head(book: &[u8], category: usize, month: usize) -> u64
     requires valid { Valid book.now }
-    requires category_le_categories { (category ≤ categories) × (month ≤ months) }
+    requires within { (category ≤ categories) × (month ≤ months) }
     ensures { result ≡ head_at book.now category month }
 {
     book_herd::head(book, category, month).unwrap_or(0)

@@ -25,9 +25,9 @@ pub head-heads-requires-clause-valid : goal.head-heads-requires-clause-valid
 head-heads-requires-clause-valid c =
     c.requires.valid
 
-pub head-heads-requires-clause-category_le_categories : goal.head-heads-requires-clause-category_le_categories
-head-heads-requires-clause-category_le_categories c =
-    (c.requires.category_le_categories, omega (arith, c.loop-month.invariant.2, c.requires.in_period.high))
+pub head-heads-requires-clause-within : goal.head-heads-requires-clause-within
+head-heads-requires-clause-within c =
+    (c.requires.category_within, omega (arith, c.loop-month.invariant.2, c.requires.in_period.high))
 
 pub overflow_add-heads : goal.overflow_add-heads
 overflow_add-heads c =
@@ -40,9 +40,9 @@ overflow_add-heads c =
       arith,
       loop.invariant.3,
       sum_most each 100000 (loop.month - 1)
-          (λ m low high. head_most book c.requires.valid c.args.category (before + m) c.requires.category_le_categories (omega (arith, c.requires.in_period.high))),
+          (λ m low high. head_most book c.requires.valid c.args.category (before + m) c.requires.category_within (omega (arith, c.requires.in_period.high))),
       c.head-heads.ensures,
-      head_most book c.requires.valid c.args.category (c.months_before-before.result + loop.month) c.requires.category_le_categories
+      head_most book c.requires.valid c.args.category (c.months_before-before.result + loop.month) c.requires.category_within
           (omega (arith, loop.invariant.2, c.requires.in_period.high)),
     )
 
