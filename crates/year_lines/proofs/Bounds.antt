@@ -1,13 +1,13 @@
 -- How large a year's figures can be, from the ranges of what they are made of: each product is at most that of the ranges' ends.
 -- Assumes nothing.
-use Prim.Native.Nat.{ℕ, zero, suc, ◌+◌, ◌*◌, ◌-◌, ◌≤◌, ◌<◌, ◌^◌}
+use Prim.Native.Nat.{ℕ, zero, suc, ◌+◌, ◌*◌, ◌≤◌, ◌<◌, ◌^◌}
 use mathlib.Core.Bool.{Bool, true, false, cond}
 use mathlib.Core.List.{List}
-use mathlib.Core.Path.{sym, ap, subst, ◌≡◌, ◌∙◌}
+use mathlib.Core.Path.{ap, ◌≡◌, ◌∙◌}
 use native.Mathlib.Nat.{mul-le-mul, suc-mul}
 use native.Mathlib.Omega.{arith}
 use lib.Dec.{eqb}
-use lib.ListN.{length, get_or}
+use lib.ListN.{length}
 use Rattle.units.specs.Grams.{potential, b0_rule_of}
 use Rattle.units.specs.declared.solids.Solids.{Solids}
 use Rattle.calendar.specs.Days.{months_in_year}
@@ -17,22 +17,23 @@ use Rattle.lagoon_month.proofs.Entry.{four}
 use Rattle.lagoon_run.specs.Asks.{RunFits}
 use Rattle.lagoon_factor.specs.Rule.{million}
 use Rattle.lagoon_month.specs.Month.{empty_of}
-use Rattle.lagoon_run.specs.Run.{run_from, run_of, after, year_of, months_of}
+use Rattle.lagoon_run.specs.Run.{run_from, run_of, after, year_of, no_month, months_of}
+use Rattle.lagoon_month.specs.declared.Month.{Month}
 use Rattle.lagoon_month.specs.declared.Standing.{Standing}
 use Rattle.lagoon_run.specs.declared.Totals.{Totals}
 use Rattle.record_table.specs.Table.{lines, months}
 use Rattle.book.specs.Valid.{Valid}
-use Rattle.book_herd.specs.Herd.{system_of, line_of, drained_of}
+use Rattle.book_herd.specs.Herd.{system_of, line_of}
 use Rattle.book_herd.specs.declared.Line.{Line}
-use Rattle.book_slots.specs.declared.Seen.{Seen}
-use Rattle.book_slots.specs.declared.Seen.TheVariants.{Nothing, Value}
+use Rattle.std.specs.Prelude.{Option, Some, None}
 use Rattle.year_months.specs.Asks.{InPeriod, HoldsYear}
-use Rattle.year_months.specs.Series.{months_before, factor_at}
+use Rattle.year_months.specs.Series.{months_before}
+use Rattle.year_months.proofs.Arrays.{array_at}
 use Rattle.year_heads.specs.Heads.{heads_of}
 use Rattle.year_heads.proofs.Ranges.{heads_most_lem}
 use Rattle.year_sums.specs.Asks.{all_grams}
 use Rattle.year_sums.specs.Sums.{anaerobic_of}
-use Rattle.year_lines.specs.Lines.{anaerobic, daily_of, days_in_year, converted_of, other_of, by_system, line_in, sums_over, all, entered_at, month_at}
+use Rattle.year_lines.specs.Lines.{anaerobic, daily_of, days_in_year, converted_of, other_of, by_system, line_in, sums_over, all, month_at}
 use Rattle.year_sums.specs.declared.Sums.{Sums}
 use Rattle.year_lines.proofs.SameMonths.{same_run, standing_most}
 use Rattle.year_lines.proofs.Ranges.{factor_most, line_ranged, entry_most}
@@ -93,24 +94,9 @@ module _ (book : List ℕ) (v : Valid book) (line : ℕ) (there : line ≤ lines
       let high = period.high in
       record { entered = omega arith; degraded = omega arith; removed = omega arith; carried = omega arith }
 
-  -- the arrays of a year that the code fills from the book
-  module _ (year : ℕ) (period : InPeriod year) {entered factors : List ℕ} {drained : List Bool}
-      (entered_held : HoldsYear ℕ 0 year (λ m. (entered_at book line m).0) entered)
-      (factors-held : HoldsYear ℕ 0 year (factor_at book) factors)
-      (drained-held : HoldsYear Bool false year (drained_of book line) drained)
+  -- the months of a year that the code makes from the book
+  module _ (year : ℕ) (period : InPeriod year) {list : List Month} (held : HoldsYear Month no_month year (month_at book line) list)
       {from : Standing} (handed_on : from ≡ (run_of (month_at book line) (months_before year)).standing) where
-    entry_at : (i : ℕ) → i < months_in_year → get_or entered i 0 ≤ entered_most
-    entry_at i below =
-        let e : i + 1 - 1 ≡ i = omega arith in
-        subst (λ (k : ℕ). get_or entered k 0 ≤ entered_most) e
-        (rw (entered_held.each (i + 1) (omega arith) (omega arith)) (entry_most book v line (months_before year + (i + 1)) there (omega (arith, period.high))))
-
-    factor_at_lem : (i : ℕ) → i < months_in_year → get_or factors i 0 ≤ million
-    factor_at_lem i below =
-        let e : i + 1 - 1 ≡ i = omega arith in
-        subst (λ (k : ℕ). get_or factors k 0 ≤ million) e
-        (rw (factors-held.each (i + 1) (omega arith) (omega arith)) (factor_most book (months_before year + (i + 1))))
-
     carried_most : from.0.0 ≤ months_before year * entered_most
     carried_most =
         rw handed_on
@@ -120,30 +106,28 @@ module _ (book : List ℕ) (v : Valid book) (line : ℕ) (there : line ≤ lines
               (λ m low high. month_entered m (omega (arith, period.high))),
         ))
 
-    pub arrays_fit : RunFits from entered factors drained
-    arrays_fit =
+    pub months_fit : RunFits from list
+    months_fit =
         record {
-          room = rw entered_held.long (omega (arith, carried_most, period.high));
-          entry = λ i below. entry_at i (omega (arith, entered_held.long));
-          factor = λ i below. factor_at_lem i (omega (arith, entered_held.long));
-          factors_long = factors-held.long ∙ sym entered_held.long;
-          drained_long = drained-held.long ∙ sym entered_held.long;
+          room = rw held.long (omega (arith, carried_most, period.high));
+          entry = λ i below.
+              let inside : i < months_in_year = omega (arith, held.long) in
+              rw (array_at held i inside) (month_entered (months_before year + i + 1) (omega (arith, period.high)));
+          factor = λ i below.
+              let inside : i < months_in_year = omega (arith, held.long) in
+              rw (array_at held i inside) (month_factor (months_before year + i + 1));
         }
 
-    array_month : (m : ℕ) → 1 ≤ m → m ≤ months_in_year → months_of entered factors drained m ≡ after (months_before year) (month_at book line) m
-    unfolding month_at
-    array_month m low high = rw (entered_held.each m low high, factors-held.each m low high, drained-held.each m low high)
-
-    pub year_run : {totals : Totals} → totals ≡ run_from from (months_of entered factors drained) (length entered) → totals ≡ year_of (month_at book line) year
+    pub year_run : {totals : Totals} → totals ≡ run_from from (months_of list) (length list) → totals ≡ year_of (month_at book line) year
     unfolding year_of
     year_run is =
-        is ∙ ap (run_from from (months_of entered factors drained)) entered_held.long ∙
-        same_run from (months_of entered factors drained) (after (months_before year) (month_at book line)) months_in_year array_month ∙
+        is ∙ ap (run_from from (months_of list)) held.long ∙
+        same_run from (months_of list) (after (months_before year) (month_at book line)) months_in_year held.each ∙
         ap (λ (s : Standing). run_from s (after (months_before year) (month_at book line)) months_in_year) handed_on
 
-by_most : (seen : Seen) (lagoon other : Sums) → Most line_most lagoon → Most line_most other → Most line_most (by_system seen lagoon other)
-by_most Nothing lagoon other l o = record { entered = omega arith; degraded = omega arith; removed = omega arith; carried = omega arith; baseline = omega arith }
-by_most (Value system) lagoon other l o = go (eqb system anaerobic)
+by_most : (seen : Option ℕ) (lagoon other : Sums) → Most line_most lagoon → Most line_most other → Most line_most (by_system seen lagoon other)
+by_most None lagoon other l o = record { entered = omega arith; degraded = omega arith; removed = omega arith; carried = omega arith; baseline = omega arith }
+by_most (Some system) lagoon other l o = go (eqb system anaerobic)
   where
     go : (b : Bool) → Most line_most (cond b lagoon other)
     go true = l

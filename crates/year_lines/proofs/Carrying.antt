@@ -1,8 +1,8 @@
 -- What each line hands on from one year to the next: a year's months end where all the months through it do, and the lines are renewed one by one.
 -- Assumes nothing.
-use Prim.Native.Nat.{ℕ, zero, suc, ◌+◌, ◌-◌, ◌≤◌, ◌<◌}
+use Prim.Native.Nat.{ℕ, ◌+◌, ◌-◌, ◌≤◌, ◌<◌}
 use mathlib.Core.List.{List}
-use mathlib.Core.Path.{refl, sym, ap, subst, ◌≡◌, ◌∙◌}
+use mathlib.Core.Path.{sym, ap, subst, ◌≡◌, ◌∙◌}
 use native.Mathlib.Decide.{dec_lt}
 use native.Mathlib.Omega.{arith}
 use lib.ListN.{length, get_or, set, replicate, length-set, length-replicate, get_or-replicate}
@@ -14,8 +14,7 @@ use Rattle.lagoon_month.specs.declared.Standing.{Standing}
 use Rattle.lagoon_run.specs.declared.Totals.{Totals}
 use Rattle.record_table.specs.Table.{lines}
 use Rattle.book_herd.specs.Herd.{system_of}
-use Rattle.book_slots.specs.declared.Seen.{Seen}
-use Rattle.book_slots.specs.declared.Seen.TheVariants.{Nothing, Value}
+use Rattle.std.specs.Prelude.{Option, Some, None}
 use Rattle.calendar.specs.Days.{months_in_year}
 use Rattle.year_months.specs.Series.{months_before, months_through}
 use Rattle.year_lines.specs.Asks.{Handed, Standings}
@@ -39,18 +38,18 @@ year_handed book line year low is = λ a.
     (joined empty_of (month_at book line) (months_before year) months_in_year).standing)
 
 -- what the code read of a line's system says whether it hands anything on
-module _ (book : List ℕ) (line : ℕ) {seen : Seen} (read : seen ≡ system_of book line) where
-  pub handed_absent : (year : ℕ) (standing : Standing) → seen ≡ Nothing → Handed book year line standing
+module _ (book : List ℕ) (line : ℕ) {seen : Option ℕ} (read : seen ≡ system_of book line) where
+  pub handed_absent : (year : ℕ) (standing : Standing) → seen ≡ None → Handed book year line standing
   handed_absent year standing e = λ a.
-      let both : Nothing ≡ Value anaerobic = sym e ∙ read ∙ a in let z : ◌≡◌ {A = ℕ} 0 1 = cc in absurd (omega arith)
+      let both : None ≡ Some anaerobic = sym e ∙ read ∙ a in let z : ◌≡◌ {A = ℕ} 0 1 = cc in absurd (omega arith)
 
-  module _ {system : ℕ} (value : seen ≡ Value system) where
+  module _ {system : ℕ} (value : seen ≡ Some system) where
     pub handed_other : (year : ℕ) (standing : Standing) → (system ≡ anaerobic → ⊥) → Handed book year line standing
     handed_other year standing other = λ a.
-        let both : Value system ≡ Value anaerobic = sym value ∙ read ∙ a in let z : system ≡ anaerobic = cc in absurd (other z)
+        let both : Some system ≡ Some anaerobic = sym value ∙ read ∙ a in let z : system ≡ anaerobic = cc in absurd (other z)
 
-    pub stands : system ≡ anaerobic → system_of book line ≡ Value anaerobic
-    stands z = sym read ∙ value ∙ ap Value z
+    pub stands : system ≡ anaerobic → system_of book line ≡ Some anaerobic
+    stands z = sym read ∙ value ∙ ap Some z
 
 -- a walk over the lines that has come to one: those before it are renewed, and it and those after it are as the year before left them
 pub record Renewed (book : List ℕ) (year line : ℕ) (standings : List Standing) : Type 0 where

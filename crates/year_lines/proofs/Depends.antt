@@ -25,9 +25,7 @@ use Rattle.book_slots.specs.Field.{place_of, bytes_of, seen_at, number_of, seen_
 use Rattle.book_slots.specs.Reads.{first_year_of, first_month_of}
 use Rattle.book_herd.specs.Herd.{system_of, line_of, drained_of}
 use Rattle.book_herd.specs.declared.Line.{Line}
-use Rattle.book_slots.specs.declared.Seen.{Seen}
-use Rattle.book_slots.specs.declared.Seen.TheVariants.{Nothing, Value}
-use Rattle.book_slots.specs.declared.Warmth.TheVariants.{Unknown, Tenths}
+use Rattle.std.specs.Prelude.{Option, Some, None}
 use Rattle.year_months.specs.Series.{amount_of, months_before, months_through, year_at, days_at, factor_by, factor_at}
 use Rattle.year_months.proofs.Years.{no_later}
 use Rattle.year_heads.specs.Heads.{head_at, heads_of}
@@ -59,8 +57,8 @@ module _ (one other : List ℕ) (row : ℕ) (key : List ℕ) (same : Same one ot
   same_seen : (n : ℕ) → place_of row n + bytes_of row n ≤ record_bytes → seen_of one row key n ≡ seen_of other row key n
   unfolding seen_at
   same_seen n inside =
-      ap (λ (b : Bool). cond b (Value (number_of one row key n)) Nothing) same_filled ∙
-      ap (λ (x : ℕ). cond (filled_of other row key) (Value x) Nothing) (same_number n inside)
+      ap (λ (b : Bool). cond b (Some (number_of one row key n)) None) same_filled ∙
+      ap (λ (x : ℕ). cond (filled_of other row key) (Some x) None) (same_number n inside)
 
 abbrev month : Solids → ℕ → Bool → Month
 month entered factor drained = record { entered = entered; factor = factor; drained = drained }
@@ -98,8 +96,8 @@ module _ (one other : List ℕ) (line year : ℕ) (same : SameSums one other lin
   same_days : (m : ℕ) → days_at one m ≡ days_at other m
   unfolding days_at
   same_days m =
-      ap (λ (s : Seen). days_of (amount_of s) (amount_of (first_month_of one)) m) (same_seen one other yr [] same.start 0 (lit≤ tt)) ∙
-      ap (λ (s : Seen). days_of (amount_of (first_year_of other)) (amount_of s) m) (same_seen one other yr [] same.start 1 (lit≤ tt))
+      ap (λ (s : Option ℕ). days_of (amount_of s) (amount_of (first_month_of one)) m) (same_seen one other yr [] same.start 0 (lit≤ tt)) ∙
+      ap (λ (s : Option ℕ). days_of (amount_of (first_year_of other)) (amount_of s) m) (same_seen one other yr [] same.start 1 (lit≤ tt))
 
   same_heads : (y : ℕ) → 1 ≤ y → y ≤ year → heads_of one y (line_of one line).category ≡ heads_of other y (line_of other line).category
   same_heads y some within = same.heads y some within ∙ ap (λ (x : Line). heads_of other y x.category) same_line
@@ -115,9 +113,9 @@ module _ (one other : List ℕ) (line year : ℕ) (same : SameSums one other lin
     same_factor : factor_at one m ≡ factor_at other m
     unfolding factor_at
     same_factor =
-        ap (λ (b : Bool). factor_by (cond b (Tenths (signed_of (number_of one tp (m ∷ []) 2))) Unknown))
+        ap (λ (b : Bool). factor_by (cond b (Some (signed_of (number_of one tp (m ∷ []) 2))) None))
         (same_filled one other tp (m ∷ []) (same.temperatures m low high)) ∙
-        ap (λ (n : ℕ). factor_by (cond (filled_of other tp (m ∷ [])) (Tenths (signed_of n)) Unknown))
+        ap (λ (n : ℕ). factor_by (cond (filled_of other tp (m ∷ [])) (Some (signed_of n)) None))
         (same_number one other tp (m ∷ []) (same.temperatures m low high) 2 (lit≤ tt))
 
     same_month : month_at one line m ≡ month_at other line m
@@ -136,7 +134,7 @@ module _ (one other : List ℕ) (line year : ℕ) (same : SameSums one other lin
   unfolding line_in
   line_by_sums low =
       ap
-      (λ (s : Seen). by_system s (anaerobic_of (year_of (month_at one line) year) (line_of one line).b0) (other_of (heads_of one year
+      (λ (s : Option ℕ). by_system s (anaerobic_of (year_of (month_at one line) year) (line_of one line).b0) (other_of (heads_of one year
       (line_of one line).category) (line_of one line)))
       (same_seen one other ln (line ∷ []) same.numbers 1 (lit≤ tt)) ∙
       ap

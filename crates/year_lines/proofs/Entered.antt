@@ -1,19 +1,24 @@
 -- What a line enters in the months of a year, from what the code read: its numbers, the sum of the year's heads and the days. Assumes nothing.
-use Prim.Native.Nat.{ℕ, ◌+◌, ◌-◌, ◌≤◌}
+use Prim.Native.Nat.{ℕ, ◌+◌, ◌≤◌, ◌<◌}
+use mathlib.Core.Bool.{Bool}
 use mathlib.Core.List.{List}
 use mathlib.Core.Path.{ap, sym, ◌≡◌, ◌∙◌}
 use native.Mathlib.Decide.{dec_lt}
 use native.Mathlib.Omega.{arith}
 use lib.ListN.{get_or, get_or-eq_default}
 use Rattle.calendar.specs.Days.{months_in_year}
-use Rattle.book_herd.specs.Herd.{line_of}
+use Rattle.units.specs.declared.solids.Solids.{Solids}
+use Rattle.lagoon_month.specs.declared.Month.{Month}
+use Rattle.book_herd.specs.Herd.{line_of, drained_of}
 use Rattle.book_herd.specs.declared.Line.{Line}
-use Rattle.year_months.specs.Asks.{Holds, HoldsYear}
-use Rattle.year_months.specs.Series.{months_before, year_at, days_at}
+use Rattle.year_months.specs.Asks.{HoldsYear}
+use Rattle.year_months.specs.Series.{months_before, year_at, days_at, factor_at}
 use Rattle.year_months.proofs.Arrays.{array_at}
 use Rattle.year_months.proofs.Years.{own_year}
 use Rattle.year_heads.specs.Heads.{heads_of}
-use Rattle.year_lines.specs.Lines.{entered_by, entered_at}
+use Rattle.year_lines.specs.Lines.{entered_by, entered_at, month_at}
+use Rattle.year_lines.specs.Asks.{HoldsFigures}
+use Rattle.year_lines.specs.declared.YearFigures.{YearFigures}
 use Rattle.year_lines.proofs.Ranges.{days_most}
 
 -- the days of a book are a month's
@@ -24,20 +29,31 @@ days_held book year {days} held i =
       | no past ↦ rw (get_or-eq_default days 0 {n = i} (omega (arith, held.long))) (omega arith)
     ]
 
-pub entered_held :
-    (book : List ℕ) (line year : ℕ) → 1 ≤ year → (numbers : Line) (heads : ℕ) {days entered : List ℕ} → numbers ≡ line_of book line →
-    heads ≡ heads_of book year numbers.category → HoldsYear ℕ 0 year (days_at book) days →
-    Holds ℕ 0 months_in_year 0 months_in_year (λ m. (entered_by heads numbers (get_or days (m - 1) 0)).0) entered → HoldsYear ℕ 0 year (λ m. (entered_at book line m).0) entered
-unfolding entered_at
-entered_held book line year some numbers heads {days} read summed held made =
-    record {
-      long = made.long;
-      each = λ m low high.
-          let at = months_before year + m in
-          let first : 0 + m ≡ m = omega arith in
-          made.each m low high ∙ ap (λ (n : ℕ). (entered_by heads numbers (get_or days (n - 1) 0)).0) first ∙
-          ap (λ (d : ℕ). (entered_by heads numbers d).0) (held.each m low high) ∙
-          ap (λ (n : ℕ). (entered_by n numbers (days_at book at)).0)
-          (summed ∙ ap (λ (y : ℕ). heads_of book y numbers.category) (sym (own_year year m some low high))) ∙
-          ap (λ (x : Line). (entered_by (heads_of book (year_at at) x.category) x (days_at book at)).0) read;
-    }
+-- a month of a line, from its parts
+abbrev pub made : Solids → ℕ → Bool → Month
+made entered factor drained = record { entered = entered; factor = factor; drained = drained }
+
+module _ (book : List ℕ) (line year : ℕ) (some : 1 ≤ year) {numbers : Line} {heads before : ℕ} (read : numbers ≡ line_of book line)
+    (summed : heads ≡ heads_of book year numbers.category) (begins : before ≡ months_before year) (passed : ℕ) (inside : passed < months_in_year)
+    {figures : YearFigures} (held : HoldsFigures book year figures) where
+  abbrev here : ℕ
+  here = before + passed + 1
+
+  own : year ≡ year_at here
+  own =
+      let e : months_before year + (passed + 1) ≡ here = omega (arith, begins) in
+      sym (own_year year (passed + 1) some (omega arith) (omega arith)) ∙ ap year_at e
+
+  pub month_is :
+      {entered : Solids} {drained : Bool} → entered ≡ entered_by heads numbers (get_or figures.days passed 0) → drained ≡ drained_of book line here →
+      made entered (get_or figures.factors passed 0) drained ≡ month_at book line here
+  unfolding month_at entered_at
+  month_is came drained_is =
+      let days_are : get_or figures.days passed 0 ≡ days_at book here =
+      array_at held.days passed inside ∙ ap (λ (b : ℕ). days_at book (b + passed + 1)) (sym begins) in
+      let factor_is : get_or figures.factors passed 0 ≡ factor_at book here =
+      array_at held.factors passed inside ∙ ap (λ (b : ℕ). factor_at book (b + passed + 1)) (sym begins) in
+      rw (came, days_are, factor_is, drained_is)
+      (ap (λ (h : ℕ). made (entered_by h numbers (days_at book here)) (factor_at book here) (drained_of book line here))
+      (summed ∙ ap (λ (y : ℕ). heads_of book y numbers.category) own) ∙
+      ap (λ (x : Line). made (entered_by (heads_of book (year_at here) x.category) x (days_at book here)) (factor_at book here) (drained_of book line here)) read)

@@ -7,7 +7,7 @@ use lib.ListN.{get_or}
 use Rattle.lagoon_month.specs.Asks.{heads_most}
 use Rattle.record_table.specs.Table.{lines}
 use Rattle.book.specs.Valid.{Valid}
-use Rattle.book_slots.specs.declared.Seen.TheVariants.{Value}
+use Rattle.std.specs.Prelude.{Some}
 use Rattle.book_herd.specs.Herd.{system_of, line_of}
 use Rattle.book_herd.specs.declared.Line.{Line}
 use Rattle.book_herd.proofs.Ranges.{category_some}
@@ -17,7 +17,7 @@ use Rattle.year_heads.specs.Asks.{HoldsHeads}
 use Rattle.year_heads.proofs.Ranges.{heads_at, heads_most_lem}
 use Rattle.year_lines.proofs.Ranges.{LineRanged, line_ranged}
 
-module _ (book : List ℕ) (v : Valid book) (line : ℕ) (there : line ≤ lines) {system : ℕ} (stands : system_of book line ≡ Value system)
+module _ (book : List ℕ) (v : Valid book) (line : ℕ) (there : line ≤ lines) {system : ℕ} (stands : system_of book line ≡ Some system)
     {numbers : Line} (read : numbers ≡ line_of book line) where
   pub ranged : LineRanged numbers
   ranged = rw read (line_ranged book v line there)

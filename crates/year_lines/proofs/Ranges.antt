@@ -14,8 +14,7 @@ use Rattle.book_herd.proofs.Ranges.{numbers_in}
 use Rattle.book_slots.specs.Reads.{first_year_of, first_month_of, temperature_of}
 use Rattle.book_herd.specs.Herd.{line_of}
 use Rattle.book_herd.specs.declared.Line.{Line}
-use Rattle.book_slots.specs.declared.Warmth.{Warmth}
-use Rattle.book_slots.specs.declared.Warmth.TheVariants.{Unknown, Tenths}
+use Rattle.std.specs.Prelude.{ℤ, Option, Some, None}
 use Rattle.year_months.specs.Series.{amount_of, year_at, days_at, factor_by, factor_at}
 use Rattle.year_months.proofs.Years.{in_period}
 use Rattle.year_heads.proofs.Ranges.{heads_most_lem}
@@ -30,9 +29,9 @@ pub record LineRanged (line : Line) : Type 0 where
   pub b0 : line.b0 ≤ 100
   pub conversion : line.conversion ≤ 10000
 
-factor_by_most : (warmth : Warmth) → factor_by warmth ≤ million
-factor_by_most Unknown = omega arith
-factor_by_most (Tenths tenths) = factor.most tenths
+factor_by_most : (warmth : Option ℤ) → factor_by warmth ≤ million
+factor_by_most None = omega arith
+factor_by_most (Some tenths) = factor.most tenths
 
 module _ (book : List ℕ) where
   pub days_most : (m : ℕ) → days_at book m ≤ 31

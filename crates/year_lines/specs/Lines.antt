@@ -1,13 +1,12 @@
 -- A month of a line (01, "The lagoon month"; 02, (ii)), and the lines of a year: solids of the anaerobic ones, and the baseline of all (01, "The year"; Equations
 -- 5.3 and 5.4).
-use Rattle.std.specs.Prelude.{ℕ, zero, suc, ◌*◌, ◌/◌, eqb}
+use Rattle.std.specs.Prelude.{ℕ, zero, suc, ◌*◌, ◌/◌, eqb, Option, Some, None}
 use mathlib.Core.{Bool.Bool, Bool.true, Bool.cond, List.List}
 use Rattle.units.specs.{Grams.solids, Grams.share_of, Grams.potential, Grams.b0_rule_of, declared.solids.Solids.Solids}
 use Rattle.lagoon_month.specs.{Month.entered_of, declared.Month.Month}
 use Rattle.lagoon_run.specs.Run.{year_of}
 use Rattle.record_table.specs.Table.{lines}
 use Rattle.book_herd.specs.Herd.{system_of, line_of, drained_of}
-use Rattle.book_slots.specs.declared.Seen.{Seen, TheVariants.Nothing, TheVariants.Value}
 use Rattle.book_herd.specs.declared.Line.{Line}
 use Rattle.year_months.specs.Series.{year_at, days_at, factor_at}
 use Rattle.year_heads.specs.Heads.{heads_of}
@@ -51,9 +50,9 @@ abbrev pub other_of : ℕ → Line → Sums
 other_of heads line = baseline_alone (b0_rule_of (converted_of heads line) line.b0 potential)
 
 -- a line in a year, by its system; where there is no line there is nothing
-abbrev pub by_system : Seen → Sums → Sums → Sums
-by_system Nothing lagoon other = nothing
-by_system (Value system) lagoon other = cond (eqb system anaerobic) lagoon other
+abbrev pub by_system : Option ℕ → Sums → Sums → Sums
+by_system None lagoon other = nothing
+by_system (Some system) lagoon other = cond (eqb system anaerobic) lagoon other
 
 unfoldable pub line_in : List ℕ → ℕ → ℕ → Sums
 line_in book year line =

@@ -2,22 +2,20 @@
 // for the others.
 #![tactic(auto)]
 
-ghost use Rattle.std.specs.Prelude.{◌≡◌, Bool, false, ℕ, ◌-◌, ◌≤◌, length, get_or};
-ghost use Rattle.calendar.specs.Days.{months_in_year};
+ghost use Rattle.std.specs.Prelude.{◌≡◌, ◌-◌, ◌≤◌, length, get_or};
 ghost use Rattle.lagoon_month.specs.Asks.{heads_most};
+ghost use Rattle.lagoon_month.specs.declared.Month.{Month};
+ghost use Rattle.lagoon_run.specs.Run.{no_month};
 ghost use Rattle.record_table.specs.Table.{lines, categories};
 ghost use Rattle.book.specs.Valid.{Valid};
-ghost use Rattle.book_slots.specs.declared.Seen.TheVariants.{Value};
-ghost use Rattle.book_herd.specs.Herd.{system_of, drained_of};
-ghost use Rattle.year_months.specs.Series.{days_at, factor_at};
-ghost use Rattle.year_months.specs.Asks.{InPeriod, Holds, HoldsYear};
-ghost use Rattle.year_heads.specs.Asks.{HoldsHeads};
-ghost use Rattle.year_lines.specs.Lines.{anaerobic, entered_by, entered_at, other_of, line_in, all, sums_of};
-ghost use Rattle.year_lines.specs.Asks.{Handed, Standings};
+ghost use Rattle.book_herd.specs.Herd.{system_of};
+ghost use Rattle.year_months.specs.Asks.{InPeriod, HoldsYear};
+ghost use Rattle.year_lines.specs.Lines.{anaerobic, month_at, other_of, line_in, all, sums_of};
+ghost use Rattle.year_lines.specs.Asks.{Handed, HoldsFigures, Standings};
 
 use book_herd::Line;
-use book_slots::Seen;
-use lagoon_month::Standing;
+use lagoon_month::{Month, Standing};
+use record_table::CATEGORIES;
 use units::Solids;
 use year_months::MONTHS_IN_YEAR;
 use year_sums::Sums;
@@ -55,6 +53,7 @@ fn standings_before(book: &[u8], year: usize) -> [Standing; LINES]
     let empty = Standing::empty();
     let mut standings = [empty; LINES];
     for earlier in 1..year {
+        // The prover's walk doesn't cover a call's result laid in a variable that holds an array.
         let handed_on = standings_after(book, earlier, standings);
         standings = handed_on;
     }
@@ -62,53 +61,20 @@ fn standings_before(book: &[u8], year: usize) -> [Standing; LINES]
 }
 
 // The standing that each line hands on from an earlier year: nothing else is asked of it, and its sums are
-// left out. Days and factors are the months' alone, and the heads the categories': they are worked out once.
+// left out.
 fn standings_after(book: &[u8], earlier: usize, before: [Standing; LINES]) -> [Standing; LINES]
     requires valid { Valid book.now }
     requires in_period { InPeriod earlier }
     requires standings { Standings book.now (earlier - 1) before }
     ensures { Standings book.now earlier result }
 {
-    let heads = year_heads::by_category(book, earlier);
-    let days = year_months::days(book, earlier);
-    let factors = year_months::factors(book, earlier);
+    let figures = YearFigures::of(book, earlier);
     let mut standings = before;
     for line in 1..=LINES {
         let from = standings[line - 1];
-        standings[line - 1] = line_hands_on(book, earlier, line, from, &heads, &days, &factors);
+        standings[line - 1] = figures.line_hands_on(book, earlier, line, from);
     }
     standings
-}
-
-// What one line hands on. A line of another system than the anaerobic has no standing: the one that it is
-// given is handed on as it is, and nothing reads it.
-fn line_hands_on(
-    book: &[u8],
-    year: usize,
-    line: usize,
-    from: Standing,
-    heads: &[u64],
-    days: &[u64],
-    factors: &[u64],
-) -> Standing
-    requires valid { Valid book.now }
-    requires in_period { InPeriod year }
-    requires line_le_lines { line ≤ lines }
-    requires handed { Handed book.now (year - 1) line from }
-    requires holds_heads { HoldsHeads book.now year heads.now }
-    requires holds_year { HoldsYear ℕ 0 year (days_at book.now) days.now }
-    requires holds_year_2 { HoldsYear ℕ 0 year (factor_at book.now) factors.now }
-    ensures { Handed book.now year line result }
-{
-    let Seen::Value(system) = book_herd::system(book, line) else {
-        return from;
-    };
-    if system == ANAEROBIC {
-        let entered = entered_in(book, year, line, heads, days);
-        let drained = drains(book, year, line);
-        return lagoon_run::handed_on(from, &entered, factors, &drained);
-    }
-    from
 }
 
 // All lines, each from the standing that the years before handed on.
@@ -118,117 +84,127 @@ fn sums_from(book: &[u8], year: usize, before: [Standing; LINES]) -> Sums
     requires standings { Standings book.now (year - 1) before }
     ensures { result ≡ sums_of book.now year all }
 {
-    let heads = year_heads::by_category(book, year);
-    let days = year_months::days(book, year);
-    let factors = year_months::factors(book, year);
+    let figures = YearFigures::of(book, year);
     let mut sums = Sums::nothing();
     for line in 1..=LINES {
-        let from = before[line - 1];
-        let own = line_in(book, year, line, from, &heads, &days, &factors);
+        let own = figures.line_in(book, year, line, before[line - 1]);
         sums = sums.plus(own);
     }
     sums
 }
 
-// One line, by its system.
-fn line_in(
-    book: &[u8],
-    year: usize,
-    line: usize,
-    from: Standing,
-    heads: &[u64],
-    days: &[u64],
-    factors: &[u64],
-) -> Sums
-    requires valid { Valid book.now }
-    requires in_period { InPeriod year }
-    requires line_le_lines { line ≤ lines }
-    requires handed { Handed book.now (year - 1) line from }
-    requires holds_heads { HoldsHeads book.now year heads.now }
-    requires holds_year { HoldsYear ℕ 0 year (days_at book.now) days.now }
-    requires holds_year_2 { HoldsYear ℕ 0 year (factor_at book.now) factors.now }
-    ensures { result ≡ line_in book.now year line }
-{
-    let Seen::Value(system) = book_herd::system(book, line) else {
-        return Sums::nothing();
-    };
-    let numbers = book_herd::line_at(book, line);
-    if system == ANAEROBIC {
-        let entered = entered_in(book, year, line, heads, days);
-        let drained = drains(book, year, line);
-        let totals = lagoon_run::run(from, &entered, factors, &drained);
-        return Sums::anaerobic(totals, numbers.b0);
+// What a year has for all its lines alike: the sum of each category's heads, and the days and the factor of
+// each month. It is worked out once.
+#[derive(Drop)]
+struct YearFigures {
+    heads: [u64; CATEGORIES],
+    days: [u64; MONTHS_IN_YEAR],
+    factors: [u64; MONTHS_IN_YEAR],
+}
+
+impl YearFigures {
+    fn of(book: &[u8], year: usize) -> Self
+        requires valid { Valid book.now }
+        requires in_period { InPeriod year }
+        ensures { HoldsFigures book.now year result }
+    {
+        YearFigures {
+            heads: year_heads::by_category(book, year),
+            days: year_months::days(book, year),
+            factors: year_months::factors(book, year),
+        }
     }
-    other(numbers, own_heads(numbers, heads))
-}
 
-// What an anaerobic line enters in grams, month by month of the year.
-fn entered_in(
-    book: &[u8],
-    year: usize,
-    line: usize,
-    heads: &[u64],
-    days: &[u64],
-) -> [u64; MONTHS_IN_YEAR]
-    requires valid { Valid book.now }
-    requires in_period { InPeriod year }
-    requires line_le_lines { line ≤ lines }
-    requires line_value { system_of book.now line ≡ Value anaerobic }
-    requires holds_heads { HoldsHeads book.now year heads.now }
-    requires holds_year { HoldsYear ℕ 0 year (days_at book.now) days.now }
-    ensures { HoldsYear ℕ 0 year (λ m. (entered_at book.now line m).0) result }
-{
-    let numbers = book_herd::line_at(book, line);
-    entries(numbers, own_heads(numbers, heads), days)
-}
-
-// The sum of the year's heads of a line's category.
-fn own_heads(numbers: Line, heads: &[u64]) -> u64
-    requires { (1 ≤ numbers.category) × (numbers.category ≤ categories) × (length heads.now ≡ categories) }
-    ensures { result ≡ get_or heads.now (numbers.category - 1) 0 }
-{
-    heads[numbers.category as usize - 1]
-}
-
-// What a line enters in grams, month by month of a year, by the sum of the year's heads.
-fn entries(numbers: Line, heads: u64, days: &[u64]) -> [u64; MONTHS_IN_YEAR]
-    requires heads_le_heads_most { (heads ≤ heads_most) × (numbers.solids ≤ 2000) × (numbers.mass ≤ 20000) × (numbers.share ≤ 10000) }
-    requires days_len { (length days.now ≡ months_in_year) × ((i : ℕ) → get_or days.now i 0 ≤ 31) }
-    ensures { Holds ℕ 0 months_in_year 0 months_in_year (λ m. (entered_by heads numbers (get_or days.now (m - 1) 0)).0) result }
-{
-    let mut entries = [0u64; MONTHS_IN_YEAR];
-    for passed in 0..MONTHS_IN_YEAR {
-        let entered = lagoon_month::entered(
-            heads,
-            numbers.solids,
-            numbers.mass,
-            numbers.share,
-            days[passed],
-        );
-        entries[passed] = entered.grams();
+    // What one line hands on. A line of another system than the anaerobic has no standing: the one that it
+    // is given is handed on as it is, and nothing reads it.
+    fn line_hands_on(&self, book: &[u8], year: usize, line: usize, from: Standing) -> Standing
+        requires valid { Valid book.now }
+        requires in_period { InPeriod year }
+        requires line_of_book { line ≤ lines }
+        requires handed { Handed book.now (year - 1) line from }
+        requires figures { HoldsFigures book.now year self.now }
+        ensures { Handed book.now year line result }
+    {
+        let Some(system) = book_herd::system(book, line) else {
+            return from;
+        };
+        if system == ANAEROBIC {
+            let months = self.months_of_line(book, year, line);
+            return lagoon_run::handed_on(from, &months);
+        }
+        from
     }
-    entries
-}
 
-// When a line was drained, month by month of the year.
-fn drains(book: &[u8], year: usize, line: usize) -> [bool; MONTHS_IN_YEAR]
-    requires valid { Valid book.now }
-    requires in_period { InPeriod year }
-    requires line_le_lines { line ≤ lines }
-    ensures { HoldsYear Bool false year (drained_of book.now line) result }
-{
-    let before = year_months::months_before(year);
-    let mut drains = [false; MONTHS_IN_YEAR];
-    for passed in 0..MONTHS_IN_YEAR {
-        drains[passed] = book_herd::drained(book, line, before + passed + 1);
+    // One line, by its system.
+    fn line_in(&self, book: &[u8], year: usize, line: usize, from: Standing) -> Sums
+        requires valid { Valid book.now }
+        requires in_period { InPeriod year }
+        requires line_of_book { line ≤ lines }
+        requires handed { Handed book.now (year - 1) line from }
+        requires figures { HoldsFigures book.now year self.now }
+        ensures { result ≡ line_in book.now year line }
+    {
+        let Some(system) = book_herd::system(book, line) else {
+            return Sums::nothing();
+        };
+        let numbers = book_herd::line_at(book, line);
+        if system == ANAEROBIC {
+            let months = self.months_of_line(book, year, line);
+            let totals = lagoon_run::run(from, &months);
+            return Sums::anaerobic(totals, numbers.b0);
+        }
+        other(numbers, self.own_heads(numbers))
     }
-    drains
+
+    // The months of an anaerobic line in the year, first to last.
+    #[tactic(auto, using(year_months::proofs::Arrays::array_begins, year_months::proofs::Arrays::array_more, year_months::proofs::Arrays::array_full))]
+    fn months_of_line(&self, book: &[u8], year: usize, line: usize) -> [Month; MONTHS_IN_YEAR]
+        requires valid { Valid book.now }
+        requires in_period { InPeriod year }
+        requires line_of_book { line ≤ lines }
+        requires is_anaerobic { system_of book.now line ≡ Some anaerobic }
+        requires figures { HoldsFigures book.now year self.now }
+        ensures { HoldsYear Month no_month year (month_at book.now line) result }
+    {
+        let numbers = book_herd::line_at(book, line);
+        let heads = self.own_heads(numbers);
+        let before = year_months::months_before(year);
+        let none = Month {
+            entered: Solids::of_grams(0),
+            factor: 0,
+            drained: false,
+        };
+        let mut months = [none; MONTHS_IN_YEAR];
+        for (passed, month) in months.iter_mut().enumerate() {
+            let entered = lagoon_month::entered(
+                heads,
+                numbers.solids,
+                numbers.mass,
+                numbers.share,
+                self.days[passed],
+            );
+            *month = Month {
+                entered,
+                factor: self.factors[passed],
+                drained: book_herd::drained(book, line, before + passed + 1),
+            };
+        }
+        months
+    }
+
+    // The sum of the year's heads of a line's category.
+    fn own_heads(&self, numbers: Line) -> u64
+        requires { (1 ≤ numbers.category) × (numbers.category ≤ categories) × (length self.now.heads ≡ categories) }
+        ensures { result ≡ get_or self.now.heads (numbers.category - 1) 0 }
+    {
+        self.heads[numbers.category as usize - 1]
+    }
 }
 
 // A line of another system, by the sum of the year's heads: each division rounds down.
 fn other(numbers: Line, heads: u64) -> Sums
-    requires heads_le_heads_most { (heads ≤ heads_most) × (numbers.solids ≤ 2000) × (numbers.mass ≤ 20000) × (numbers.share ≤ 10000) }
-    requires b0_bound { (numbers.b0 ≤ 100) × (numbers.conversion ≤ 10000) }
+    requires in_ranges { (heads ≤ heads_most) × (numbers.solids ≤ 2000) × (numbers.mass ≤ 20000) × (numbers.share ≤ 10000) }
+    requires rest_in_ranges { (numbers.b0 ≤ 100) × (numbers.conversion ≤ 10000) }
     ensures { result ≡ other_of heads numbers }
 {
     let daily = heads * numbers.solids * numbers.mass * numbers.share / DAILY_PARTS;

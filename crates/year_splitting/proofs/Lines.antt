@@ -11,7 +11,7 @@ use Rattle.lagoon_month.specs.Month.{entered_of}
 use Rattle.record_table.specs.Table.{lines}
 use Rattle.book.specs.Valid.{Valid}
 use Rattle.book_slots.specs.Reads.{temperature_of}
-use Rattle.book_slots.specs.declared.Seen.TheVariants.{Value}
+use Rattle.std.specs.Prelude.{Some}
 use Rattle.book_herd.specs.Herd.{system_of, line_of, drained_of}
 use Rattle.book_herd.specs.declared.Line.{Line}
 use Rattle.year_months.specs.Asks.{InPeriod}
@@ -67,7 +67,7 @@ pub record SameKind (part whole : LineOf) : Type 0 where
   pub b0 : (numbers_of part).b0 ≡ (numbers_of whole).b0
 
 pub record SplitLine (whole first second : LineOf) : Type 0 where
-  pub lagoon : system_of whole.book whole.line ≡ Value anaerobic
+  pub lagoon : system_of whole.book whole.line ≡ Some anaerobic
   pub first_kind : SameKind first whole
   pub second_kind : SameKind second whole
 
@@ -120,7 +120,7 @@ abbrev pub baselines_over : LineOf → ℕ → ℕ → ℕ
 baselines_over line before years = sum years (λ y. (line_in line.book (before + y) line.line).baseline.0)
 
 baselines_are :
-    (line : LineOf) (before years : ℕ) → system_of line.book line.line ≡ Value anaerobic →
+    (line : LineOf) (before years : ℕ) → system_of line.book line.line ≡ Some anaerobic →
     stated_over (month_at line.book line.line) (numbers_of line).b0 before years ≡ baselines_over line before years
 baselines_are line before years lagoon =
     sum_same _ _ years

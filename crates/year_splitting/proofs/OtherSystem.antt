@@ -9,7 +9,7 @@ use lib.Signed.{◌≤ℤ◌}
 use Rattle.tonnes.proofs.Nearest.{ordered}
 use Rattle.units.specs.Grams.{density, potential, b0_rule_of}
 use Rattle.units.specs.declared.solids.Solids.{Solids}
-use Rattle.book_slots.specs.declared.Seen.TheVariants.{Value}
+use Rattle.std.specs.Prelude.{Some}
 use Rattle.book_herd.specs.Herd.{system_of}
 use Rattle.year_lines.specs.Lines.{anaerobic, daily_of, days_in_year, converted_of}
 use Rattle.year_lines.proofs.Parts.{LineOf}
@@ -32,14 +32,14 @@ pub record SameSystem (part whole : LineOf) : Type 0 where
 -- two lines that divide a line's manure of a year between them
 pub record SplitYear (whole first second : LineOf) (year : ℕ) : Type 0 where
   pub system : ℕ
-  pub there : system_of whole.book whole.line ≡ Value system
+  pub there : system_of whole.book whole.line ≡ Some system
   pub no_lagoon : system ≡ anaerobic → ⊥
   pub first_system : SameSystem first whole
   pub second_system : SameSystem second whole
   pub divided : ManureDivided whole first second year
 
 baseline_is :
-    (line : LineOf) (year system : ℕ) → system_of line.book line.line ≡ Value system → (system ≡ anaerobic → ⊥) →
+    (line : LineOf) (year system : ℕ) → system_of line.book line.line ≡ Some system → (system ≡ anaerobic → ⊥) →
     (b0_rule_of (converted_in line year) (numbers_of line).b0 potential).0 ≡ baseline_in line year
 baseline_is line year system there no_lagoon =
     ap (λ s. s.baseline.0) (other_is line.book year line.line refl there refl no_lagoon refl refl)

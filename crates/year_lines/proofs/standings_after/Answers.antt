@@ -1,6 +1,5 @@
 -- `year_lines::standings_after` meets its contract: the lines before the one that the loop has come to are renewed.
 -- Assumes nothing.
-use mathlib.Core.Path.{sym}
 use native.Mathlib.Omega.{arith}
 use Rattle.year_lines.proofs.Carrying.{renewed_all, renewed_more, renewed_none}
 use Rattle.year_lines.proofs.standings_after.Goals as goal
@@ -18,19 +17,10 @@ offset_bounds-standings-line c = omega arith
 pub bounds-standings-line : goal.bounds-standings-line
 bounds-standings-line c = omega arith
 
-pub slice_bounds-line_hands_on-end : goal.slice_bounds-line_hands_on-end
-slice_bounds-line_hands_on-end c = sym c.by_category-heads.ensures.long
-
-pub slice_bounds-line_hands_on-end-in-loop-line : goal.slice_bounds-line_hands_on-end-in-loop-line
-slice_bounds-line_hands_on-end-in-loop-line c = sym c.days-days.ensures.long
-
-pub slice_bounds-line_hands_on-end-in-loop-line-2 : goal.slice_bounds-line_hands_on-end-in-loop-line-2
-slice_bounds-line_hands_on-end-in-loop-line-2 c = sym c.factors-factors.ensures.long
-
 pub line_hands_on-requires : goal.line_hands_on-requires
 line_hands_on-requires c =
     let loop = c.loop-line in
-    let left = loop.invariant.2.left loop.line (omega arith) (omega arith) in record { valid = c.requires.valid; in_period = c.requires.in_period; line_le_lines = omega arith; handed = left; holds_heads = c.by_category-heads.ensures; holds_year = c.days-days.ensures; holds_year_2 = c.factors-factors.ensures }
+    record { valid = c.requires.valid; in_period = c.requires.in_period; line_of_book = omega arith; handed = loop.invariant.2.left loop.line (omega arith) (omega arith); figures = c.of-figures.ensures }
 
 pub overflow_sub-standings : goal.overflow_sub-standings
 overflow_sub-standings c = omega arith
