@@ -1,14 +1,11 @@
 -- A series as an array holds it: an array of nothing, an hour more, and two series that agree.
 -- Assumes nothing.
-use Rattle.std.proofs.Common.{◌≡◌, ℕ, zero, suc, ◌+◌, ◌≤◌, ◌<◌, List, Option, Some, None, Bool, true, false, length, set, replicate, refl, ◌∙◌, arith}
+use Rattle.std.proofs.Common.{◌≡◌, ℕ, zero, suc, ◌+◌, ◌≤◌, ◌<◌, List, Option, None, Bool, true, false, length, set, replicate, refl, ◌∙◌, arith}
 use borrow.Author.Count.{below_more}
 use borrow.Author.Tests.{ltb-true, ltb-false}
 use lib.Dec.{ltb}
 use lib.Seq.{get_or-set_same, get_or-set_other}
-use Rattle.meter_series.specs.Series.{series, amount}
-
-pub amount_of_lem : (v : Option ℕ) (n : ℕ) → v ≡ Some n → n ≤ amount v
-amount_of_lem v n e = rw e (omega arith)
+use Rattle.meter_series.specs.Series.{series}
 
 module _ (l : List (Option ℕ)) (i : ℕ) (v : Option ℕ) where
   pub stored :
