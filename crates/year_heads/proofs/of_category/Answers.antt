@@ -11,19 +11,8 @@ use Rattle.year_heads.specs.Heads.{heads_of, head_at}
 use Rattle.year_heads.proofs.Ranges.{head_most}
 use Rattle.year_heads.proofs.of_category.Goals as goal
 
-pub months_before-before-requires : goal.months_before-before-requires
-months_before-before-requires c = c.requires.in_period
-
 pub loop-month-init : goal.loop-month-init
 loop-month-init c = (omega arith, omega arith, c.months_before-before.ensures, sum_none _)
-
-pub overflow_add-before : goal.overflow_add-before
-overflow_add-before c =
-    omega (arith, c.loop-month.invariant.2, c.requires.in_period.high)
-
-pub head-heads-requires-clause-valid : goal.head-heads-requires-clause-valid
-head-heads-requires-clause-valid c =
-    c.requires.valid
 
 pub head-heads-requires-clause-within : goal.head-heads-requires-clause-within
 head-heads-requires-clause-within c =
@@ -45,12 +34,6 @@ overflow_add-heads c =
       head_most book c.requires.valid c.args.category (c.months_before-before.result + loop.month) c.requires.category_within
           (omega (arith, loop.invariant.2, c.requires.in_period.high)),
     )
-
-pub overflow_step-month : goal.overflow_step-month
-overflow_step-month c = omega arith
-
-pub loop-month-smaller : goal.loop-month-smaller
-loop-month-smaller c = omega arith
 
 pub loop-month-preserved : goal.loop-month-preserved
 loop-month-preserved c =

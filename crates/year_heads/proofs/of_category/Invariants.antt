@@ -12,6 +12,3 @@ abbrev pub invariant-loop-month : goal.invariant-loop-month
 invariant-loop-month l =
     (1 ≤ l.month) × (l.month ≤ months_in_year + 1) × (l.before ≡ months_before l.year) ×
     (l.heads ≡ sum (l.month - 1) (λ m. head_at l.book l.category (months_before l.year + m)))
-
-abbrev pub decreases-loop-month : goal.decreases-loop-month
-decreases-loop-month l = months_in_year + 1 - l.month

@@ -8,34 +8,10 @@ pub loop-line-init : goal.loop-line-init
 loop-line-init c =
     (omega arith, omega arith, renewed_none c.args.book.now c.args.earlier c.requires.standings)
 
-pub overflow_sub-from : goal.overflow_sub-from
-overflow_sub-from c = omega arith
-
-pub offset_bounds-standings-line : goal.offset_bounds-standings-line
-offset_bounds-standings-line c = omega arith
-
-pub bounds-standings-line : goal.bounds-standings-line
-bounds-standings-line c = omega arith
-
 pub line_hands_on-requires : goal.line_hands_on-requires
 line_hands_on-requires c =
     let loop = c.loop-line in
     record { valid = c.requires.valid; in_period = c.requires.in_period; line_of_book = omega arith; handed = loop.invariant.2.left loop.line (omega arith) (omega arith); figures = c.of-figures.ensures }
-
-pub overflow_sub-standings : goal.overflow_sub-standings
-overflow_sub-standings c = omega arith
-
-pub offset_bounds-standings-line-in-loop-line : goal.offset_bounds-standings-line-in-loop-line
-offset_bounds-standings-line-in-loop-line c = omega arith
-
-pub bounds-standings-line-in-loop-line : goal.bounds-standings-line-in-loop-line
-bounds-standings-line-in-loop-line c = omega arith
-
-pub overflow_step-line : goal.overflow_step-line
-overflow_step-line c = omega arith
-
-pub loop-line-smaller : goal.loop-line-smaller
-loop-line-smaller c = omega arith
 
 pub loop-line-preserved : goal.loop-line-preserved
 loop-line-preserved c =

@@ -14,9 +14,6 @@ standings_after-handed_on-requires c =
     let loop = c.loop-earlier in
     record { valid = c.requires.valid; in_period = record { low = omega arith; high = omega (arith, c.requires.in_period.high) }; standings = loop.invariant.2 }
 
-pub loop-earlier-smaller : goal.loop-earlier-smaller
-loop-earlier-smaller c = omega arith
-
 pub loop-earlier-preserved : goal.loop-earlier-preserved
 loop-earlier-preserved c =
     let earlier = c.loop-earlier.earlier in

@@ -6,6 +6,3 @@ use Rattle.year_lines.proofs.standings_before.Given as goal
 
 abbrev pub invariant-loop-earlier : goal.invariant-loop-earlier
 invariant-loop-earlier l = (1 ≤ l.earlier) × (l.earlier ≤ l.year) × Standings l.book (l.earlier - 1) l.standings
-
-abbrev pub decreases-loop-earlier : goal.decreases-loop-earlier
-decreases-loop-earlier l = l.year - l.earlier

@@ -24,12 +24,6 @@ plus-sums-requires c =
     rw (loop.invariant.2, c.line_in-own.ensures)
     (sums_fit c.args.book.now c.requires.valid c.args.year c.requires.in_period (loop.line - 1) loop.line (omega arith) (omega arith))
 
-pub overflow_step-line : goal.overflow_step-line
-overflow_step-line c = omega arith
-
-pub loop-line-smaller : goal.loop-line-smaller
-loop-line-smaller c = omega arith
-
 pub loop-line-preserved : goal.loop-line-preserved
 loop-line-preserved c =
     let loop = c.loop-line in

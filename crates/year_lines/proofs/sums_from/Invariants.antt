@@ -9,6 +9,3 @@ use Rattle.year_lines.proofs.sums_from.Given as goal
 abbrev pub invariant-loop-line : goal.invariant-loop-line
 invariant-loop-line l =
     (1 ≤ l.line) × (l.line ≤ lines + 1) × (l.sums ≡ sums_over (line_in l.book l.year) all (l.line - 1))
-
-abbrev pub decreases-loop-line : goal.decreases-loop-line
-decreases-loop-line l = lines + 1 - l.line
