@@ -10,9 +10,10 @@ use lib.Dec.{T, leb, leb→le}
 use lib.Ieee.Fits.{and_l, and_r}
 use lib.ListN.{length}
 use Rattle.meter_series.specs.Series.{most_hours}
-use Rattle.refusals.specs.Refusal.{refusal, no_month}
+use Rattle.refusals.specs.Refusal.{refusal}
+use Rattle.refusals.specs.declared.Reason.TheVariants.{NoMonth}
+use Rattle.std.specs.Prelude.{Err}
 use Rattle.meter_hour.specs.declared.Kind.{Kind, TheVariants.CubicMetres, TheVariants.CubicFeet}
-use Rattle.meter_month.specs.declared.MonthAnswer.TheVariants.{Refused}
 use Rattle.meter_bytes.specs.Format.{header_bytes, value_at, whole_of}
 
 pub header_within : (kind : Kind) → (10 ≤ header_bytes kind) × (header_bytes kind ≤ 14)
@@ -20,7 +21,7 @@ header_within CubicMetres = (omega arith, omega arith)
 header_within CubicFeet = (omega arith, omega arith)
 
 pub short_none :
-    (kind : Kind) (input : List ℕ) (f c t p s : ℕ) → length input < header_bytes kind → Refused (refusal no_month 0) ≡ whole_of kind input f c t p s
+    (kind : Kind) (input : List ℕ) (f c t p s : ℕ) → length input < header_bytes kind → Err (refusal NoMonth 0) ≡ whole_of kind input f c t p s
 unfolding whole_of
 short_none kind input f c t p s short = rw (ne_eqb (length input) (value_at kind (f + c + t + p) + s) (λ e. omega arith))
 

@@ -11,11 +11,12 @@ use lib.Dec.{eqb, leb}
 use lib.Ieee.{Float}
 use lib.ListN.{length, drop, length-append, length-drop, get_or-append}
 use Rattle.number_bytes.specs.Number.{number_at}
-use Rattle.refusals.specs.Refusal.{refusal, unknown_mark, no_month}
+use Rattle.refusals.specs.Refusal.{refusal}
+use Rattle.refusals.specs.declared.{Refusal.Refusal, Reason.TheVariants.UnknownMark, Reason.TheVariants.NoMonth}
+use Rattle.std.specs.Prelude.{Result, Err}
+use Rattle.units.specs.declared.methane.Methane.{Methane}
 use Rattle.meter_series.specs.Series.{most_hours}
 use Rattle.meter_hour.specs.declared.Kind.{Kind, TheVariants.CubicMetres, TheVariants.CubicFeet}
-use Rattle.meter_month.specs.declared.MonthAnswer.{MonthAnswer}
-use Rattle.meter_month.specs.declared.MonthAnswer.TheVariants.{Refused}
 use Rattle.meter_month.specs.Month.{are_hours, are_feet_hours, month_of, feet_month_of}
 use Rattle.meter_month.specs.Asks.{AsLong, AllAsLong}
 use Rattle.meter_month.proofs.Hours.{as_long, all_as_long}
@@ -23,8 +24,8 @@ use Rattle.meter_bytes.specs.Format.{longest_bytes, is_mark, is_other_mark, coun
 use Rattle.meter_bytes.specs.Asks.{Has}
 use Rattle.meter_bytes.proofs.EachFloat.{floats_length}
 
-abbrev not_lent : MonthAnswer
-not_lent = Refused (refusal no_month 0)
+abbrev not_lent : Result Methane Refusal
+not_lent = Err (refusal NoMonth 0)
 
 -- as many values of each list that a kind has as states, and no more than a month has hours
 abbrev Long : Kind → ℕ → ℕ → ℕ → ℕ → ℕ → Type 0
@@ -84,7 +85,7 @@ too_long : (kind : Kind) (length f c t p s : ℕ) → Has kind t p → longest_b
 too_long CubicMetres length f c t p s has long whole h = omega (arith, has.0, has.1, h.0, h.1, h.2)
 too_long CubicFeet length f c t p s has long whole h = omega (arith, h.0.0, h.0.1, h.0.2, h.1.0, h.1.1)
 
-picked : (b : Bool) (a : MonthAnswer) → (b ≡ true → a ≡ not_lent) → cond b a not_lent ≡ not_lent
+picked : (b : Bool) (a : Result Methane Refusal) → (b ≡ true → a ≡ not_lent) → cond b a not_lent ≡ not_lent
 picked true a h = h refl
 picked false a h = refl
 
@@ -99,14 +100,14 @@ counted_none : (kind : Kind) (input : List ℕ) → longest_bytes < length input
 counted_none CubicMetres input long = whole_none CubicMetres input (count_at input 0) (count_at input 1) 0 0 (count_at input 2) (refl, refl) long
 counted_none CubicFeet input long = whole_none CubicFeet input (count_at input 0) (count_at input 1) (count_at input 2) (count_at input 3) (count_at input 4) tt long
 
-either_none : (b : Bool) {x y : MonthAnswer} → x ≡ not_lent → y ≡ not_lent → cond b x y ≡ not_lent
+either_none : (b : Bool) {x y : Result Methane Refusal} → x ≡ not_lent → y ≡ not_lent → cond b x y ≡ not_lent
 either_none true p q = p
 either_none false p q = q
 
-long_refused : (input : List ℕ) → longest_bytes < length input → stated_of input ≡ cond (is_other_mark input) (Refused (refusal unknown_mark 0)) not_lent
+long_refused : (input : List ℕ) → longest_bytes < length input → stated_of input ≡ cond (is_other_mark input) (Err (refusal UnknownMark 0)) not_lent
 unfolding stated_of
 long_refused input long =
-    ap (cond (is_other_mark input) (Refused (refusal unknown_mark 0)))
+    ap (cond (is_other_mark input) (Err (refusal UnknownMark 0)))
     (either_none (is_mark (code "F") input) (counted_none CubicFeet input long) (counted_none CubicMetres input long))
 
 module _ (input more : List ℕ) (long : longest_bytes < length input) where
@@ -125,4 +126,4 @@ module _ (input more : List ℕ) (long : longest_bytes < length input) where
   -- what follows such an input changes nothing
   pub nothing_after : stated_of (input ++ more) ≡ stated_of input
   nothing_after =
-      long_refused (input ++ more) longer ∙ ap (λ (b : Bool). cond b (Refused (refusal unknown_mark 0)) not_lent) same_mark ∙ sym (long_refused input long)
+      long_refused (input ++ more) longer ∙ ap (λ (b : Bool). cond b (Err (refusal UnknownMark 0)) not_lent) same_mark ∙ sym (long_refused input long)

@@ -2,18 +2,16 @@
 #![tactic(auto)]
 
 ghost use Rattle.std.specs.Prelude.{◌≡◌, ◌&&◌, ◌+◌, ◌*◌, ◌≤◌, leb, length, take};
-ghost use Rattle.refusals.specs.Refusal.{refusal};
 ghost use Rattle.meter_hour.specs.declared.Kind.TheVariants.{CubicMetres, CubicFeet};
-ghost use Rattle.meter_month.specs.declared.MonthAnswer.TheVariants.{Refused};
 ghost use Rattle.meter_series.specs.Series.{most_hours};
 ghost use Rattle.number_float.specs.Float.{float_bytes};
-ghost use Rattle.meter_bytes.specs.Format.{header_bytes, is_mark, is_other_mark, count_at, floats_at, month_in, value_at, lent_of, whole_of, counted_of, stated_of};
+ghost use Rattle.meter_bytes.specs.Format.{header_bytes, is_mark, is_other_mark, count_at, floats_at, value_at, lent_of, whole_of, counted_of, stated_of};
 ghost use Rattle.meter_bytes.specs.Asks.{Has, Count};
 
 use meter_hour::Kind;
-use meter_month::MonthAnswer;
 use number_float::FLOAT;
-use refusals::Refusal;
+use refusals::{Reason, Refusal};
+use units::Methane;
 
 // The bytes before the first flow, in cubic metres and in cubic feet.
 const METRES_HEADER: usize = 10;
@@ -36,23 +34,17 @@ const COUNTS_AT: usize = 4;
 // The bytes of each of these.
 const HALF: usize = 2;
 
-// The month that the input holds, stated or refused.
-pub fn stated(input: &[u8]) -> MonthAnswer
+// The month that the input holds: the methane that it destroyed, or why it is refused.
+pub fn stated(input: &[u8]) -> Result<Methane, Refusal>
     ensures { result ≡ stated_of input.now }
 {
     if is_other_mark(input) {
-        return refused(refusals::UNKNOWN_MARK, 0);
+        return Err(Reason::UnknownMark.at(0));
     }
     if is_mark(input, b'F') {
         return in_feet(input);
     }
     in_metres(input)
-}
-
-fn refused(number: u8, place: usize) -> MonthAnswer
-    ensures { result ≡ Refused (refusal number place) }
-{
-    MonthAnswer::Refused(Refusal { number, place })
 }
 
 // Whether the input has a mark, and it is neither CM nor CF.
@@ -68,7 +60,7 @@ fn is_other_mark(input: &[u8]) -> bool
     !is_mark(input, b'F')
 }
 
-// Whether the input has the mark of C and a letter.
+// Whether the input has the mark of C and a letter. A match on the slice's first two bytes is shorter, and its arms' goals were not proved.
 fn is_mark(input: &[u8], letter: u8) -> bool
     ensures { result ≡ is_mark letter input.now }
 {
@@ -81,40 +73,48 @@ fn is_mark(input: &[u8], letter: u8) -> bool
     input[1] == letter
 }
 
+// How many values each list of a month has. A meter in cubic metres has no temperatures and no pressures.
+#[derive(Clone, Copy, Debug, PartialEq, Eq)]
+struct Counts {
+    flows: usize,
+    contents: usize,
+    temperatures: usize,
+    pressures: usize,
+    states: usize,
+}
+
 // A month in cubic metres: three counts.
-fn in_metres(input: &[u8]) -> MonthAnswer
+fn in_metres(input: &[u8]) -> Result<Methane, Refusal>
     ensures { result ≡ counted_of CubicMetres input.now }
 {
     if input.len() < METRES_HEADER {
-        return refused(refusals::NO_MONTH, 0);
+        return Err(Reason::NoMonth.at(0));
     }
-    let flows = count(input, 0);
-    let contents = count(input, 1);
-    let states = count(input, 2);
-    whole(Kind::CubicMetres, input, flows, contents, 0, 0, states)
+    let counts = Counts {
+        flows: count(input, 0),
+        contents: count(input, 1),
+        temperatures: 0,
+        pressures: 0,
+        states: count(input, 2),
+    };
+    whole(Kind::CubicMetres, input, counts)
 }
 
 // A month in cubic feet: five counts.
-fn in_feet(input: &[u8]) -> MonthAnswer
+fn in_feet(input: &[u8]) -> Result<Methane, Refusal>
     ensures { result ≡ counted_of CubicFeet input.now }
 {
     if input.len() < FEET_HEADER {
-        return refused(refusals::NO_MONTH, 0);
+        return Err(Reason::NoMonth.at(0));
     }
-    let flows = count(input, 0);
-    let contents = count(input, 1);
-    let temperatures = count(input, 2);
-    let pressures = count(input, 3);
-    let states = count(input, 4);
-    whole(
-        Kind::CubicFeet,
-        input,
-        flows,
-        contents,
-        temperatures,
-        pressures,
-        states,
-    )
+    let counts = Counts {
+        flows: count(input, 0),
+        contents: count(input, 1),
+        temperatures: count(input, 2),
+        pressures: count(input, 3),
+        states: count(input, 4),
+    };
+    whole(Kind::CubicFeet, input, counts)
 }
 
 // A count of the header; the first is count 0.
@@ -136,96 +136,59 @@ fn header(kind: Kind) -> usize
 }
 
 // The month of an input, if it is as long as its counts say; more values than the longest month has hours are none.
-fn whole(
-    kind: Kind,
-    input: &[u8],
-    flows: usize,
-    contents: usize,
-    temperatures: usize,
-    pressures: usize,
-    states: usize,
-) -> MonthAnswer
-    requires count { Count flows × Count contents × Count temperatures × Count pressures × Count states }
-    requires has { Has kind temperatures pressures }
-    ensures { result ≡ whole_of kind input.now flows contents temperatures pressures states }
+fn whole(kind: Kind, input: &[u8], counts: Counts) -> Result<Methane, Refusal>
+    requires of_two_bytes { Count counts.flows × Count counts.contents × Count counts.temperatures × Count counts.pressures × Count counts.states }
+    requires of_its_kind { Has kind counts.temperatures counts.pressures }
+    ensures { result ≡ whole_of kind input.now counts.flows counts.contents counts.temperatures
+        counts.pressures counts.states }
 {
-    let floats = flows + contents + temperatures + pressures;
-    if input.len() != header(kind) + FLOAT * floats + states {
-        return refused(refusals::NO_MONTH, 0);
+    let floats = counts.flows + counts.contents + counts.temperatures + counts.pressures;
+    if input.len() != header(kind) + FLOAT * floats + counts.states {
+        return Err(Reason::NoMonth.at(0));
     }
-    if !fit_a_month(flows, contents) {
-        return refused(refusals::NO_MONTH, 0);
+    if !fit_a_month(counts.flows, counts.contents) {
+        return Err(Reason::NoMonth.at(0));
     }
-    if !fit_a_month(temperatures, pressures) {
-        return refused(refusals::NO_MONTH, 0);
+    if !fit_a_month(counts.temperatures, counts.pressures) {
+        return Err(Reason::NoMonth.at(0));
     }
-    lent(kind, input, flows, contents, temperatures, pressures)
-}
-
-// The month of an input with this number of flows, contents, temperatures and pressures; the rest are states.
-fn lent(
-    kind: Kind,
-    input: &[u8],
-    flows: usize,
-    contents: usize,
-    temperatures: usize,
-    pressures: usize,
-) -> MonthAnswer
-    requires pressures_in_bounds { value_at kind (flows + contents + temperatures + pressures) ≤ length input.now }
-    requires flows_le_most_hours { (flows ≤ most_hours) × (contents ≤ most_hours) × (temperatures ≤ most_hours) × (pressures ≤ most_hours) }
-    ensures { result ≡ lent_of kind input.now flows contents temperatures pressures }
-{
-    let flows_at = header(kind);
-    let contents_at = flows_at + FLOAT * flows;
-    let temperatures_at = contents_at + FLOAT * contents;
-    let pressures_at = temperatures_at + FLOAT * temperatures;
-    let states_at = pressures_at + FLOAT * pressures;
-    let all_flows = floats(input, flows_at, flows);
-    let all_contents = floats(input, contents_at, contents);
-    let all_temperatures = floats(input, temperatures_at, temperatures);
-    let all_pressures = floats(input, pressures_at, pressures);
-    let efficiency = number_bytes::number(input, EFFICIENCY_AT, HALF) as u32;
-    month(
-        kind,
-        &all_flows[..flows],
-        &all_contents[..contents],
-        &all_temperatures[..temperatures],
-        &all_pressures[..pressures],
-        &input[states_at..],
-        efficiency,
-    )
+    lent(kind, input, counts)
 }
 
 // Whether neither of two counts is above the hours of the longest month.
 fn fit_a_month(one: usize, other: usize) -> bool
     ensures { result ≡ (leb one most_hours && leb other most_hours) }
 {
-    if meter_series::MOST_HOURS < one {
-        return false;
-    }
-    other <= meter_series::MOST_HOURS
+    one <= meter_series::MOST_HOURS && other <= meter_series::MOST_HOURS
 }
 
-// The month of a meter of either kind; one in cubic metres has no temperatures and no pressures.
-fn month(
-    kind: Kind,
-    flows: &[f32],
-    contents: &[f32],
-    temperatures: &[f32],
-    pressures: &[f32],
-    states: &[u8],
-    efficiency: u32,
-) -> MonthAnswer
-    ensures { result ≡ month_in kind flows.now contents.now temperatures.now pressures.now
-        states.now efficiency }
+// The month of an input with these counts; what follows its floats are the states.
+fn lent(kind: Kind, input: &[u8], counts: Counts) -> Result<Methane, Refusal>
+    requires states_within { value_at kind (counts.flows + counts.contents + counts.temperatures + counts.pressures) ≤ length input.now }
+    requires fit_a_month { (counts.flows ≤ most_hours) × (counts.contents ≤ most_hours) × (counts.temperatures ≤ most_hours) × (counts.pressures ≤ most_hours) }
+    ensures { result ≡ lent_of kind input.now counts.flows counts.contents counts.temperatures
+        counts.pressures }
 {
+    let flows_at = header(kind);
+    let contents_at = flows_at + FLOAT * counts.flows;
+    let temperatures_at = contents_at + FLOAT * counts.contents;
+    let pressures_at = temperatures_at + FLOAT * counts.temperatures;
+    let states_at = pressures_at + FLOAT * counts.pressures;
+    let all_flows = floats(input, flows_at, counts.flows);
+    let all_contents = floats(input, contents_at, counts.contents);
+    let all_temperatures = floats(input, temperatures_at, counts.temperatures);
+    let all_pressures = floats(input, pressures_at, counts.pressures);
+    let efficiency = number_bytes::number(input, EFFICIENCY_AT, HALF) as u32;
+    let flows = &all_flows[..counts.flows];
+    let contents = &all_contents[..counts.contents];
+    let states = &input[states_at..];
     match kind {
         Kind::CubicMetres => meter_month::month(flows, contents, states, efficiency),
         Kind::CubicFeet => meter_month::feet_month(
             flows,
             contents,
-            temperatures,
-            pressures,
+            &all_temperatures[..counts.temperatures],
+            &all_pressures[..counts.pressures],
             states,
             efficiency,
         ),

@@ -1,56 +1,47 @@
 -- `meter_bytes::lent` meets its contract: the four arrays begin with the floats, each list's after those of the lists before it.
 -- Assumes nothing.
-use mathlib.Core.Path.{◌≡◌, sym}
-use Prim.Native.Nat.{◌+◌, ◌*◌}
-use native.Mathlib.Omega.{arith}
-use lib.Seq.{length-take-le}
-use Rattle.meter_bytes.specs.Format.{value_at, lent_of}
+use Rattle.std.proofs.Common.{◌≡◌, ℕ, ◌+◌, ◌*◌, List, Float, drop, arith, rules}
+use Rattle.number_bytes.specs.Number.{number_at}
+use Rattle.meter_hour.specs.declared.Kind.{Kind}
+use Rattle.meter_bytes.specs.Format.{header_bytes, value_at, floats_at, month_in, lent_of}
 use Rattle.meter_bytes.proofs.EachFloat.{rest}
 use Rattle.meter_bytes.proofs.Headers.{header_within}
-use borrow.Author.Rules.{rules}
 use Rattle.meter_bytes.proofs.lent.Goals as goal
 
-pub number-efficiency-requires : goal.number-efficiency-requires
-number-efficiency-requires c = (omega (arith, c.requires.pressures_in_bounds, (header_within c.args.kind).0), search rules)
-
-pub slice_bounds-month-end : goal.slice_bounds-month-end
-slice_bounds-month-end c =
-    sym (length-take-le _ c.floats-all_flows.result (omega (arith, c.requires.flows_le_most_hours.0, c.floats-all_flows.ensures.result_len)))
-
-pub slice_bounds-month-end-2 : goal.slice_bounds-month-end-2
-slice_bounds-month-end-2 c =
-    sym (length-take-le _ c.floats-all_contents.result (omega (arith, c.requires.flows_le_most_hours.1, c.floats-all_contents.ensures.result_len)))
-
-pub slice_bounds-month-end-3 : goal.slice_bounds-month-end-3
-slice_bounds-month-end-3 c =
-    sym (length-take-le _ c.floats-all_temperatures.result (omega (arith, c.requires.flows_le_most_hours.2, c.floats-all_temperatures.ensures.result_len)))
-
-pub slice_bounds-month-end-4 : goal.slice_bounds-month-end-4
-slice_bounds-month-end-4 c =
-    sym (length-take-le _ c.floats-all_pressures.result (omega (arith, c.requires.flows_le_most_hours.3, c.floats-all_pressures.ensures.result_len)))
-
-pub returns : goal.returns
+-- the month of lists that stand one after the other, the first of them after the header
+laid_out :
+    (kind : Kind) (input : List ℕ) (f c t p at : ℕ) {F C T P : List Float} {S : List ℕ} {e : ℕ} → at ≡ header_bytes kind →
+    F ≡ floats_at input at f → C ≡ floats_at input (at + 4 * f) c → T ≡ floats_at input (at + 4 * f + 4 * c) t →
+    P ≡ floats_at input (at + 4 * f + 4 * c + 4 * t) p → S ≡ drop (at + 4 * f + 4 * c + 4 * t + 4 * p) input → e ≡ number_at input 2 2 →
+    month_in kind F C T P S e ≡ lent_of kind input f c t p
 unfolding lent_of
-returns c =
-    let a = c.args in
+laid_out kind input f c t p at header flows contents temperatures pressures states efficiency =
+    let at_0 : value_at kind 0 ≡ at = omega (arith, header) in
+    let at_1 : value_at kind f ≡ at + 4 * f = omega (arith, header) in
+    let at_2 : value_at kind (f + c) ≡ at + 4 * f + 4 * c = omega (arith, header) in
+    let at_3 : value_at kind (f + c + t) ≡ at + 4 * f + 4 * c + 4 * t = omega (arith, header) in
+    let at_4 : value_at kind (f + c + t + p) ≡ at + 4 * f + 4 * c + 4 * t + 4 * p = omega (arith, header) in
+    rw (at_0, at_1, at_2, at_3, at_4, flows, contents, temperatures, pressures, states, efficiency)
+
+pub number-efficiency-requires : goal.number-efficiency-requires
+number-efficiency-requires c = (omega (arith, c.requires.states_within, (header_within c.args.kind).0), search rules)
+
+pub returns-in-CubicMetres : goal.returns-in-CubicMetres
+unfolding month_in
+returns-in-CubicMetres c =
+    let n = c.args.counts in
     let at = c.header-flows_at.result in
-    let header = c.header-flows_at.ensures in
-    let at_0 : value_at a.kind 0 ≡ at = omega (arith, header) in
-    let at_1 : value_at a.kind a.flows ≡ at + 4 * a.flows = omega (arith, header) in
-    let at_2 : value_at a.kind (a.flows + a.contents) ≡ at + 4 * a.flows + 4 * a.contents = omega (arith, header) in
-    let at_3 : value_at a.kind (a.flows + a.contents + a.temperatures) ≡ at + 4 * a.flows + 4 * a.contents + 4 * a.temperatures = omega (arith, header) in
-    let at_4 : value_at a.kind (a.flows + a.contents + a.temperatures + a.pressures) ≡ at + 4 * a.flows + 4 * a.contents + 4 * a.temperatures + 4 * a.pressures = omega (arith, header) in
-    rw (
-      at_0,
-      at_1,
-      at_2,
-      at_3,
-      at_4,
-      ← c.floats-all_flows.ensures.result_value,
-      ← c.floats-all_contents.ensures.result_value,
-      ← c.floats-all_temperatures.ensures.result_value,
-      ← c.floats-all_pressures.ensures.result_value,
-      ← c.number-efficiency.ensures.value,
-      ← rest a.input.now (at + 4 * a.flows + 4 * a.contents + 4 * a.temperatures + 4 * a.pressures),
-    )
-    c.month.ensures
+    let whole = laid_out c.args.kind c.args.input.now n.flows n.contents n.temperatures n.pressures at c.header-flows_at.ensures
+    c.floats-all_flows.ensures.result_value c.floats-all_contents.ensures.result_value c.floats-all_temperatures.ensures.result_value c.floats-all_pressures.ensures.result_value
+    (rest c.args.input.now (at + 4 * n.flows + 4 * n.contents + 4 * n.temperatures + 4 * n.pressures)) c.number-efficiency.ensures.value in
+    rw (← whole, c.in-CubicMetres.is) c.month.ensures
+
+pub returns-in-CubicFeet : goal.returns-in-CubicFeet
+unfolding month_in
+returns-in-CubicFeet c =
+    let n = c.args.counts in
+    let at = c.header-flows_at.result in
+    let whole = laid_out c.args.kind c.args.input.now n.flows n.contents n.temperatures n.pressures at c.header-flows_at.ensures
+    c.floats-all_flows.ensures.result_value c.floats-all_contents.ensures.result_value c.floats-all_temperatures.ensures.result_value c.floats-all_pressures.ensures.result_value
+    (rest c.args.input.now (at + 4 * n.flows + 4 * n.contents + 4 * n.temperatures + 4 * n.pressures)) c.number-efficiency.ensures.value in
+    rw (← whole, c.in-CubicFeet.is) c.feet_month.ensures

@@ -6,7 +6,7 @@ use Rattle.meter_bytes.proofs.stated.Goals as goal
 
 pub returns-then-is_other_mark : goal.returns-then-is_other_mark
 unfolding stated_of
-returns-then-is_other_mark c = rw (sym c.is_other_mark.ensures ∙ c.if-is_other_mark.true) c.refused.ensures
+returns-then-is_other_mark c = rw (sym c.is_other_mark.ensures ∙ c.if-is_other_mark.true, c.at.ensures)
 
 pub returns-then-is_mark : goal.returns-then-is_mark
 unfolding stated_of
