@@ -3,7 +3,7 @@
 
 pub mod rows;
 
-ghost use Rattle.std.specs.Prelude.{◌≡◌, cond, ◌&&◌, [], ◌∷◌, ◌+◌, ◌^◌, ◌≤◌, ◌<◌, eqb, leb, pos, neg_ℤ, length, drop};
+ghost use Rattle.std.specs.Prelude.{◌≡◌, cond, ◌&&◌, ◌+◌, ◌^◌, ◌≤◌, ◌<◌, eqb, leb, pos, neg_ℤ, length, drop, slice_index_or};
 ghost use Rattle.std.specs.Int.Signed.{le_z};
 ghost use Rattle.record_table.specs.Table.{unless, yr, ln, hd, tp, dr, pe, mt, entries_of, record_bytes};
 ghost use Rattle.record_fields.specs.Entry.{outside_at};
@@ -14,7 +14,7 @@ ghost use Rattle.record_judge.specs.Record.{outside_in, verdict, judged_by, judg
 ghost use Rattle.record_judge.specs.Keyed.{keyed, livestock_outside};
 
 use record_fields::Field;
-use record_table::{One, Two};
+use record_table::Key;
 use refusals::{Reason, Refusal};
 
 // The width of a mark, and the offsets of the key's bytes after it.
@@ -200,41 +200,41 @@ fn state_field(livestock: u8) -> Field
 
 // A record whose key has one byte, or two, each from 1 on: by the place of a zero byte that is not 0, and that of a field after the key that is outside its
 // range.
+// Two functions, and not one over the length of the key: that one would gather the bytes and the wrong place in a loop over arrays, and is no plainer.
 fn keyed_by_one(
     posted: &[u8],
-    key: One,
+    key: Key<1>,
     nonzero: Option<usize>,
     outside: Option<usize>,
 ) -> Result<Change, Refusal>
-    requires { (length posted.now ≡ record_bytes) × (key.0 < 2 ^ 32) }
-    ensures { result ≡ keyed key.0 (key.1 ∷ []) posted.now nonzero outside }
+    requires { (length posted.now ≡ record_bytes) × (key.first < 2 ^ 32) }
+    ensures { result ≡ keyed key.first key.most posted.now nonzero outside }
 {
-    let first = record_fields::outside(posted, key_field(FIRST_KEY, key.1));
+    let first = record_fields::outside(posted, key_field(FIRST_KEY, key.most[0]));
     verdict_on(
         nonzero,
         first.or(outside),
-        record_table::one_slot(key, key_byte(posted[FIRST_KEY])),
+        record_table::slot(key, [key_byte(posted[FIRST_KEY])]),
     )
 }
 
 fn keyed_by_two(
     posted: &[u8],
-    key: Two,
+    key: Key<2>,
     nonzero: Option<usize>,
     outside: Option<usize>,
 ) -> Result<Change, Refusal>
-    requires { (length posted.now ≡ record_bytes) × (key.0 < 2 ^ 32) × (key.2 < 256) }
-    ensures { result ≡ keyed key.0 (key.1 ∷ key.2 ∷ []) posted.now nonzero outside }
+    requires { (length posted.now ≡ record_bytes) × (key.first < 2 ^ 32) × (slice_index_or key.most 1 0 < 256) }
+    ensures { result ≡ keyed key.first key.most posted.now nonzero outside }
 {
-    let first = record_fields::outside(posted, key_field(FIRST_KEY, key.1));
-    let second = record_fields::outside(posted, key_field(SECOND_KEY, key.2));
+    let first = record_fields::outside(posted, key_field(FIRST_KEY, key.most[0]));
+    let second = record_fields::outside(posted, key_field(SECOND_KEY, key.most[1]));
     verdict_on(
         nonzero,
         first.or(second.or(outside)),
-        record_table::two_slot(
+        record_table::slot(
             key,
-            key_byte(posted[FIRST_KEY]),
-            key_byte(posted[SECOND_KEY]),
+            [key_byte(posted[FIRST_KEY]), key_byte(posted[SECOND_KEY])],
         ),
     )
 }

@@ -1,7 +1,8 @@
 // The table of the records in code: each mark, and what stands after it, in order.
 use record_fields::{Field, Zeros};
 
-// The marks, each as the number that its two letters make.
+// The marks, each as the number that its two letters make. No enum of them: it would be made from the letters, by a match like that of `judge`, to be matched
+// on there once.
 pub const YR: u64 = b'Y' as u64 + 256 * (b'R' as u64);
 
 pub const LN: u64 = b'L' as u64 + 256 * (b'N' as u64);

@@ -1,7 +1,9 @@
 -- No two outcomes fit the contract of a public function. Assumes nothing.
+use Prim.Native.Nat.{ℕ}
+use mir.Syntax.{w64}
+use mir.Val.{Fits}
 use Rattle.laws.proofs.Determined.{OneAnswer, one}
-use Rattle.record_table.proofs.one_slot.Reads as OneSlot
-use Rattle.record_table.proofs.two_slot.Reads as TwoSlot
+use Rattle.record_table.proofs.slot.Reads as Slot
 use Rattle.record_table.proofs.year_slot.Reads as YearSlot
 use Rattle.record_table.proofs.line_slot.Reads as LineSlot
 use Rattle.record_table.proofs.head_slot.Reads as HeadSlot
@@ -10,11 +12,8 @@ use Rattle.record_table.proofs.drain_slot.Reads as DrainSlot
 use Rattle.record_table.proofs.project_slot.Reads as ProjectSlot
 use Rattle.record_table.proofs.meter_slot.Reads as MeterSlot
 
-pub one_slot_one : OneAnswer OneSlot.Learnt
-one_slot_one κ a x y s t = one
-
-pub two_slot_one : OneAnswer TwoSlot.Learnt
-two_slot_one κ a x y s t = one
+pub slot_one : (n : ℕ) (fits : Fits w64 n) → OneAnswer (Slot.Learnt n fits)
+slot_one n fits κ a x y s t = one
 
 pub year_slot_one : OneAnswer YearSlot.Learnt
 year_slot_one κ a x y s t = one

@@ -1,14 +1,16 @@
 -- Keys of a row are counted as digits, and the rows' slots follow each other, so every slot lies below their number. Assumes nothing.
-use mathlib.Core.Path.{◌≡◌, refl, sym, subst}
+use mathlib.Core.Path.{◌≡◌, refl, sym, ap, subst, ◌∙◌}
 use mathlib.Core.Bool.{Bool, true, false}
 use mathlib.Core.List.{List, [], ◌∷◌}
 use mathlib.Core.Logic.{◌⊎◌, inl, inr, ⊎_elim}
-use Prim.Native.Nat.{ℕ, zero, suc, ◌+◌, ◌*◌, ◌-◌, ◌≤◌, ◌<◌}
-use native.Mathlib.Nat.{lt_of_lt_of_le, mul-le-mul_right, suc-mul, le_of_suc-le-suc, not-suc-le-zero}
+use Prim.Native.Nat.{ℕ, zero, suc, ◌+◌, ◌*◌, ◌-◌, ◌^◌, ◌≤◌, ◌<◌}
+use native.Mathlib.Nat.{add-mul, pow-suc, pow-le-pow_right, mul_assoc, mul-le-mul_left, lt_of_lt_of_le, mul-le-mul_right, suc-mul, le_of_suc-le-suc, not-suc-le-zero}
 use native.Mathlib.Omega.{arith}
 use borrow.Author.Tests.{ltb-true, ltb-false}
 use lib.Dec.{ltb}
-use lib.ListN.{length, get_or, take}
+use lib.ListN.{length, get_or, take, drop, length-drop}
+use Rattle.std.proofs.lemmas.Grind.{get_or_after_one}
+use Rattle.std.proofs.lemmas.List.{drop_more}
 use Rattle.record_table.specs.Table.{Row, no_row, table, highest_of}
 use Rattle.record_table.specs.Slot.{count, index, total, slots, slot_of}
 
@@ -94,3 +96,61 @@ one_row n m k a b =
     (λ lt. let z : ⊥ = omega (arith, a.below, b.from, first_rises (suc n) m lt) in absurd z)
     (λ ge. ⊎_elim (λ lt. let z : ⊥ = omega (arith, a.from, b.below, first_rises (suc m) n lt) in absurd z) (λ le. omega arith) (lt_or_ge m n))
     (lt_or_ge n m)
+
+-- the keys before a given one, counted on byte by byte from the first
+abbrev pub counted_on : ℕ → List ℕ → List ℕ → ℕ
+counted_on before [] bytes = before
+counted_on before (high ∷ highest) [] = before
+counted_on before (high ∷ highest) (byte ∷ bytes) = counted_on (before * high + (byte - 1)) highest bytes
+
+pub counted : (before : ℕ) (highest bytes : List ℕ) → length highest ≡ length bytes → counted_on before highest bytes ≡ before * count highest + index highest bytes
+unfolding count index
+counted before [] bytes e = omega arith
+counted before (high ∷ highest) [] e = let z : ⊥ = omega (arith, e) in absurd z
+counted before (high ∷ highest) (byte ∷ bytes) e =
+    counted (before * high + (byte - 1)) highest bytes (omega (arith, e))
+    ∙ omega (arith, add-mul (before * high) (byte - 1) (count highest), mul_assoc before high (count highest))
+
+-- and one more byte leaves few
+pub few : (before high byte most : ℕ) → before < most → (before ≡ 0) ⊎ (high < 256) → byte < 256 → before * high + (byte - 1) < most * 256
+few before high byte most l (inl none) b = rw none (omega arith)
+few before high byte most l (inr h) b = omega (arith, mul-le-mul_left {m = high} {n = 255} before (omega arith))
+
+module _ (highest bytes : List ℕ) (before i : ℕ) (h : i < length highest) (b : i < length bytes) where
+  pub turn : counted_on before (drop i highest) (drop i bytes) ≡ counted_on (before * get_or highest i 0 + (get_or bytes i 0 - 1)) (drop (i + 1) highest) (drop (i + 1) bytes)
+  turn =
+      ap (λ (xs : List ℕ). counted_on before xs (drop i bytes)) (drop_more highest i 0 h)
+      ∙ ap (counted_on before (get_or highest i 0 ∷ drop (i + 1) highest)) (drop_more bytes i 0 b)
+
+  small_high : ((k d : ℕ) → k < length (drop 1 highest) → get_or (drop 1 highest) k d < 256) → before < 256 ^ i → (before ≡ 0) ⊎ (get_or highest i 0 < 256)
+  small_high rest few_so_far = compared_zero i refl
+    where
+      compared_zero : (j : ℕ) → i ≡ j → (before ≡ 0) ⊎ (get_or highest i 0 < 256)
+      compared_zero zero e = inl (let one : before < 1 = rw e at few_so_far in omega arith)
+      compared_zero (suc j) e =
+          let at : 1 + j ≡ i = omega (arith, e) in
+          inr (subst (λ (x : ℕ). x < 256) (get_or_after_one highest j 0 ∙ ap (λ (k : ℕ). get_or highest k 0) at) (rest j 0 (rw length-drop (omega (arith, h, e)))))
+
+  pub fewer :
+      ((k d : ℕ) → k < length (drop 1 highest) → get_or (drop 1 highest) k d < 256) → ((k d : ℕ) → k < length bytes → get_or bytes k d < 256) → before < 256 ^ i →
+      before * get_or highest i 0 + (get_or bytes i 0 - 1) < 256 ^ (i + 1)
+  fewer rest each l =
+      let one : i + 1 ≡ suc i = omega arith in
+      let power : 256 ^ (i + 1) ≡ 256 ^ i * 256 = ap (λ (k : ℕ). 256 ^ k) one ∙ pow-suc 256 i in
+      omega (arith, few before (get_or highest i 0) (get_or bytes i 0) (256 ^ i) l (small_high rest l) (each i 0 b), power)
+
+pub below : (n i : ℕ) → i ≤ 4 → n < 256 ^ i → n < 2 ^ 32
+below n i l h = omega (arith, h, pow-le-pow_right {n = 256} (omega arith) {i = i} {j = 4} l)
+
+-- and where no byte is left, all are counted
+nothing : (xs : List ℕ) (i : ℕ) → length xs ≤ i → drop i xs ≡ []
+nothing [] zero l = refl
+nothing [] (suc i) l = refl
+nothing (x ∷ xs) zero l = let z : ⊥ = omega (arith, l) in absurd z
+nothing (x ∷ xs) (suc i) l = nothing xs i (omega (arith, l))
+
+pub all_counted :
+    (highest bytes : List ℕ) (before i : ℕ) → length highest ≡ length bytes → length highest ≤ i →
+    counted_on before (drop i highest) (drop i bytes) ≡ counted_on 0 highest bytes → before ≡ index highest bytes
+all_counted highest bytes before i same end e =
+    sym (ap (λ (xs : List ℕ). counted_on before xs (drop i bytes)) (nothing highest i end)) ∙ e ∙ counted 0 highest bytes same ∙ omega arith

@@ -1,7 +1,7 @@
 // How many lines, categories, months and devices there are, and the slot of every key.
-#![tactic(auto)]
+#![tactic(auto, unfolding(crate::specs::Slot::count, crate::specs::Slot::index, crate::specs::Slot::total, crate::specs::Slot::slot_of))]
 
-ghost use Rattle.std.specs.Prelude.{◌≡◌, [], ◌∷◌, ◌+◌, ◌-◌, ◌^◌, ◌<◌};
+ghost use Rattle.std.specs.Prelude.{◌≡◌, [], ◌∷◌, ◌+◌, ◌^◌, ◌≤◌, ◌<◌, All, length, drop};
 ghost use Rattle.record_table.specs.Table.{yr, ln, hd, tp, dr, pe, mt};
 ghost use Rattle.record_table.specs.Slot.{index, slot_of};
 
@@ -34,38 +34,53 @@ const FIRST_MT: usize = FIRST_PE + MONTHS;
 
 pub const SLOTS: usize = FIRST_MT + MONTHS * DEVICES;
 
-// A mark's key of one byte, or of two: the first of its slots, and the highest value of each byte.
+// A mark's key: the first of its slots, and the highest value of each byte.
 #[derive(Clone, Copy)]
-pub struct One(pub usize, pub usize);
-
-#[derive(Clone, Copy)]
-pub struct Two(pub usize, pub usize, pub usize);
-
-pub const LN: One = One(FIRST_LN, LINES);
-
-pub const HD: Two = Two(FIRST_HD, CATEGORIES, MONTHS);
-
-pub const TP: One = One(FIRST_TP, MONTHS);
-
-pub const DR: Two = Two(FIRST_DR, LINES, MONTHS);
-
-pub const PE: One = One(FIRST_PE, MONTHS);
-
-pub const MT: Two = Two(FIRST_MT, MONTHS, DEVICES);
-
-// The slot of a key of one byte, and of two.
-pub fn one_slot(key: One, byte: usize) -> usize
-    requires { (key.0 < 2 ^ 32) × (byte < 256) }
-    ensures { result ≡ key.0 + index (key.1 ∷ []) (byte ∷ []) }
-{
-    key.0 + earlier(byte)
+pub struct Key<const N: usize> {
+    pub first: usize,
+    pub most: [usize; N],
 }
 
-pub fn two_slot(key: Two, first: usize, second: usize) -> usize
-    requires { (key.0 < 2 ^ 32) × (key.2 < 256) × (first < 256) × (second < 256) }
-    ensures { result ≡ key.0 + index (key.1 ∷ key.2 ∷ []) (first ∷ second ∷ []) }
+pub const LN: Key<1> = Key {
+    first: FIRST_LN,
+    most: [LINES],
+};
+
+pub const HD: Key<2> = Key {
+    first: FIRST_HD,
+    most: [CATEGORIES, MONTHS],
+};
+
+pub const TP: Key<1> = Key {
+    first: FIRST_TP,
+    most: [MONTHS],
+};
+
+pub const DR: Key<2> = Key {
+    first: FIRST_DR,
+    most: [LINES, MONTHS],
+};
+
+pub const PE: Key<1> = Key {
+    first: FIRST_PE,
+    most: [MONTHS],
+};
+
+pub const MT: Key<2> = Key {
+    first: FIRST_MT,
+    most: [MONTHS, DEVICES],
+};
+
+// The slot of a key's bytes. A byte counts from 1; of 0, none comes before it either.
+pub fn slot<const N: usize>(key: Key<N>, bytes: [usize; N]) -> usize
+    requires { (key.first < 2 ^ 32) × (length bytes ≤ 4) × All (λ byte. byte < 256) bytes × All (λ high. high < 256) (drop 1 key.most) }
+    ensures { result ≡ key.entry.first + index key.entry.most bytes.entry }
 {
-    key.0 + earlier(first) * key.2 + earlier(second)
+    let mut before = 0;
+    for i in 0..N {
+        before = before * key.most[i] + bytes[i].saturating_sub(1);
+    }
+    key.first + before
 }
 
 // The slot of each mark's key.
@@ -79,47 +94,40 @@ pub fn line_slot(line: usize) -> usize
     requires { line < 256 }
     ensures { result ≡ slot_of ln (line ∷ []) }
 {
-    one_slot(LN, line)
+    slot(LN, [line])
 }
 
 pub fn head_slot(category: usize, month: usize) -> usize
     requires { (category < 256) × (month < 256) }
     ensures { result ≡ slot_of hd (category ∷ month ∷ []) }
 {
-    two_slot(HD, category, month)
+    slot(HD, [category, month])
 }
 
 pub fn temperature_slot(month: usize) -> usize
     requires { month < 256 }
     ensures { result ≡ slot_of tp (month ∷ []) }
 {
-    one_slot(TP, month)
+    slot(TP, [month])
 }
 
 pub fn drain_slot(line: usize, month: usize) -> usize
     requires { (line < 256) × (month < 256) }
     ensures { result ≡ slot_of dr (line ∷ month ∷ []) }
 {
-    two_slot(DR, line, month)
+    slot(DR, [line, month])
 }
 
 pub fn project_slot(month: usize) -> usize
     requires { month < 256 }
     ensures { result ≡ slot_of pe (month ∷ []) }
 {
-    one_slot(PE, month)
+    slot(PE, [month])
 }
 
 pub fn meter_slot(month: usize, device: usize) -> usize
     requires { (month < 256) × (device < 256) }
     ensures { result ≡ slot_of mt (month ∷ device ∷ []) }
 {
-    two_slot(MT, month, device)
-}
-
-// A key byte counts from 1: how many come before it. A byte of 0 has none before it either.
-fn earlier(number: usize) -> usize
-    ensures { result ≡ number - 1 }
-{
-    if number == 0 { 0 } else { number - 1 }
+    slot(MT, [month, device])
 }

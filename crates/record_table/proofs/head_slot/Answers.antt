@@ -1,7 +1,0 @@
--- `record_table::head_slot` meets its contract: the rows before it have as many slots as its first. Assumes nothing.
-use Rattle.record_table.specs.Slot.{count, total, slot_of}
-use Rattle.record_table.proofs.head_slot.Goals as goal
-
-pub returns : goal.returns
-unfolding count total slot_of
-returns c = c.two_slot.ensures

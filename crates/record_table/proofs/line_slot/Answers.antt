@@ -1,7 +1,0 @@
--- `record_table::line_slot` meets its contract: the rows before it have as many slots as its first. Assumes nothing.
-use Rattle.record_table.specs.Slot.{count, total, slot_of}
-use Rattle.record_table.proofs.line_slot.Goals as goal
-
-pub returns : goal.returns
-unfolding count total slot_of
-returns c = c.one_slot.ensures
