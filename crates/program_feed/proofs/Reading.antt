@@ -5,19 +5,17 @@ use Prim.Native.Nat.{ℕ, ◌+◌, ◌*◌, ◌-◌, ◌/◌, ◌%◌, ◌≤◌
 use native.Mathlib.Omega.{arith}
 use lib.ListN.{length, take, drop, length-append}
 use lib.Seq.{length-take-le, take-add}
+use Rattle.std.specs.Prelude.{Result, Ok, Err}
+use Rattle.std.specs.declared.io.Error.{Error}
 use Rattle.refusals.specs.declared.Refusal.{Refusal}
 use Rattle.record_table.specs.Table.{record_bytes}
 use Rattle.book.proofs.Kept.{kept_all}
 use Rattle.book.specs.Run.{records_from, records_of, answer_all, book_all}
 use Rattle.book.specs.Valid.{Valid}
-use Rattle.book.specs.declared.Posted.{Posted}
-use Rattle.book.specs.declared.Posted.TheVariants.{Taken, Refused}
 use Rattle.program_feed.specs.Blocks.{whole_bytes, whole_records, posted_of, carried, block_by, fed_by}
 use Rattle.program_feed.specs.Input.{book_of, ending_by, ending_of, Comes, unread, read}
-use Rattle.program_feed.specs.declared.Fed.{Fed}
-use Rattle.program_feed.specs.declared.Fed.TheVariants.{Held, Refused as FedRefused}
-use Rattle.program_feed.specs.declared.Ending.{Ending}
-use Rattle.program_feed.specs.declared.Ending.TheVariants.{Refused as EndingRefused, Failed}
+use Rattle.program_feed.specs.declared.Stop.{Stop}
+use Rattle.program_feed.specs.declared.Stop.TheVariants.{Refused, Failed}
 use Rattle.program_feed.proofs.Carrying.{held}
 use Rattle.program_feed.proofs.Posting.{after, stays, many, parts}
 use Rattle.program_feed.proofs.Slots.{free_slots, fills_all}
@@ -28,7 +26,7 @@ pub record Reading (start book block : List ℕ) (cut : ℕ) : Type 0 where
   pub posted : List ℕ
   pub is : input ≡ posted ++ take cut block
   pub whole : length posted % record_bytes ≡ 0
-  pub taken : answer_all start (records_of posted) ≡ Taken
+  pub taken : answer_all start (records_of posted) ≡ Ok tt
   pub made : book ≡ book_all start (records_of posted)
   pub short : cut < record_bytes
 
@@ -40,22 +38,22 @@ pub valid : {start book block : List ℕ} {cut : ℕ} → Reading start book blo
 valid {start} w = rw w.made (kept_all start (records_of w.posted) w.from)
 
 -- what is posted when a read fails
-pub unread_after : {start book block : List ℕ} {cut : ℕ} → Reading start book block cut → Comes start Failed book
+pub unread_after : {start book block : List ℕ} {cut : ℕ} → Reading start book block cut → (error : Error) → Comes start (Err (Failed error)) book
 unfolding book_of
-unread_after w = unread w.posted w.made
+unread_after w error = unread w.posted w.made
 
 -- how many bytes can still come
 unfoldable pub left : List ℕ → ℕ → ℕ
 left book cut = record_bytes * free_slots book + (record_bytes - cut)
 
 -- what a block comes to tells what posting it answered
-holds : (p : Posted) (filled n : ℕ) → fed_by p filled ≡ Held n → (p ≡ Taken) × (n ≡ filled - whole_bytes filled)
-holds Taken filled n e = (refl, cc)
-holds (Refused x) filled n e = let z : ◌≡◌ {A = ℕ} 0 1 = cc in absurd (omega arith)
+holds : (p : Result Unit Refusal) (filled n : ℕ) → fed_by p filled ≡ Ok n → (p ≡ Ok tt) × (n ≡ filled - whole_bytes filled)
+holds (Ok unit) filled n e = (refl, cc)
+holds (Err x) filled n e = let z : ◌≡◌ {A = ℕ} 0 1 = cc in absurd (omega arith)
 
-stops : (p : Posted) (filled : ℕ) (x : Refusal) → fed_by p filled ≡ FedRefused x → p ≡ Refused x
-stops Taken filled x e = let z : ◌≡◌ {A = ℕ} 0 1 = cc in absurd (omega arith)
-stops (Refused y) filled x e = cc
+stops : (p : Result Unit Refusal) (filled : ℕ) (x : Refusal) → fed_by p filled ≡ Err x → p ≡ Err x
+stops (Ok unit) filled x e = let z : ◌≡◌ {A = ℕ} 0 1 = cc in absurd (omega arith)
+stops (Err y) filled x e = cc
 
 -- more bytes posted after those that are
 module _ {start book block : List ℕ} {cut : ℕ} (w : Reading start book block cut) (more : List ℕ) where
@@ -72,7 +70,7 @@ module _ {start book block : List ℕ} {cut : ℕ} (w : Reading start book block
 module _ {start book block : List ℕ} {cut : ℕ} (w : Reading start book block cut) (now : List ℕ) (kept : take cut now ≡ take cut block) where
   -- at the input's end
   pub ended :
-      {ending : Ending} {last : List ℕ} → ending ≡ ending_by (answer_all book (records_of (take cut now))) → last ≡ book_all book (records_of (take cut now)) →
+      {ending : Result Unit Stop} {last : List ℕ} → ending ≡ ending_by (answer_all book (records_of (take cut now))) → last ≡ book_all book (records_of (take cut now)) →
       Comes start ending last
   unfolding ending_of book_of
   ended {ending} {last} e b =
@@ -108,7 +106,7 @@ module _ {start book block : List ℕ} {cut : ℕ} (w : Reading start book block
 
     module _ {book' : List ℕ} (b : book' ≡ book_all book (whole_records now (cut + count))) where
       pub next :
-          {block' : List ℕ} → posted_of book now (cut + count) ≡ Taken → block' ≡ carried now (whole_bytes (cut + count)) (cut + count) →
+          {block' : List ℕ} → posted_of book now (cut + count) ≡ Ok tt → block' ≡ carried now (whole_bytes (cut + count)) (cut + count) →
           Reading start book' block' (cut + count - whole_bytes (cut + count))
       unfolding whole_records records rest
       next {block'} t c =
@@ -123,14 +121,14 @@ module _ {start book block : List ℕ} {cut : ℕ} (w : Reading start book block
             short = omega arith;
           }
 
-      pub refused : {x : Refusal} → posted_of book now (cut + count) ≡ Refused x → Comes start (EndingRefused x) book'
+      pub refused : {x : Refusal} → posted_of book now (cut + count) ≡ Err x → Comes start (Err (Refused x)) book'
       unfolding whole_records records ending_of book_of
       refused {x} t =
           let both = ap records_of longer_is ∙ parts (w.posted ++ records) rest records_whole in
           let s = stays start (records_of (w.posted ++ records)) (records_of rest) x (answers w records ∙ t) in
           read longer (sym (ap ending_by (ap (answer_all start) both ∙ s.0))) (b ∙ sym (ap (book_all start) both ∙ s.1 ∙ makes w records))
 
-      pub fewer : 0 < count → posted_of book now (cut + count) ≡ Taken → left book' (cut + count - whole_bytes (cut + count)) < left book cut
+      pub fewer : 0 < count → posted_of book now (cut + count) ≡ Ok tt → left book' (cut + count - whole_bytes (cut + count)) < left book cut
       unfolding whole_records left records_of
       fewer some t =
           let l = length-take-le (whole_bytes (cut + count)) now (omega arith) in
@@ -139,14 +137,14 @@ module _ {start book block : List ℕ} {cut : ℕ} (w : Reading start book block
           omega (arith, w.short, l, n, f, ap free_slots b)
 
     -- what posting the block says
-    module _ {book' block' : List ℕ} {fed : Fed} (f : fed ≡ fed_by (posted_of book now (cut + count)) (cut + count))
+    module _ {book' block' : List ℕ} {fed : Result ℕ Refusal} (f : fed ≡ fed_by (posted_of book now (cut + count)) (cut + count))
         (b : book' ≡ book_all book (whole_records now (cut + count)))
         (c : block' ≡ block_by (posted_of book now (cut + count)) now (cut + count)) where
-      pub onwards : {n : ℕ} → 0 < count → fed ≡ Held n → Reading start book' block' n × (left book' n < left book cut)
+      pub onwards : {n : ℕ} → 0 < count → fed ≡ Ok n → Reading start book' block' n × (left book' n < left book cut)
       onwards {n} some e =
           let h = holds (posted_of book now (cut + count)) (cut + count) n (sym f ∙ e) in
           rw h.1
-          (next b h.0 (c ∙ ap (λ (p : Posted). block_by p now (cut + count)) h.0), fewer b some h.0)
+          (next b h.0 (c ∙ ap (λ (p : Result Unit Refusal). block_by p now (cut + count)) h.0), fewer b some h.0)
 
-      pub stopped : {x : Refusal} → fed ≡ FedRefused x → Comes start (EndingRefused x) book'
+      pub stopped : {x : Refusal} → fed ≡ Err x → Comes start (Err (Refused x)) book'
       stopped {x} e = refused b (stops (posted_of book now (cut + count)) (cut + count) x (sym f ∙ e))

@@ -6,18 +6,18 @@ use Prim.Native.Nat.{ℕ, zero, suc, ◌+◌, ◌<◌}
 use native.Mathlib.Decide.{dec_lt}
 use native.Mathlib.Omega.{arith}
 use lib.ListN.{length}
+use Rattle.std.specs.Prelude.{Result, Ok, Err}
+use Rattle.refusals.specs.declared.Refusal.{Refusal}
 use Rattle.record_table.specs.Slot.{slots}
 use Rattle.record_judge.specs.Record.{judged, stored_of}
-use Rattle.record_judge.specs.declared.Judged.{Judged}
-use Rattle.record_judge.specs.declared.Judged.TheVariants.{Refused as RefusedRecord, Put, Empty}
+use Rattle.record_judge.specs.declared.Change.{Change}
+use Rattle.record_judge.specs.declared.Change.TheVariants.{Put, Empty}
 use Rattle.record_judge.proofs.Keys.{put_below}
 use Rattle.record_judge.proofs.Taken.{never_empties}
 use Rattle.record_judge.proofs.StoredBytes.{stored_long, stored_judged}
 use Rattle.book.specs.Book.{free, book_with, answer_by, book_by, answer_of, book_after}
 use Rattle.book.specs.Run.{onward, answer_all, book_all}
 use Rattle.book.specs.Valid.{Valid}
-use Rattle.book.specs.declared.Posted.{Posted}
-use Rattle.book.specs.declared.Posted.TheVariants.{Taken, Refused}
 use Rattle.book.proofs.Slot.{slot_same, slot_other}
 use Rattle.book.proofs.Free.{free_same}
 use Rattle.book.proofs.Kept.{kept}
@@ -54,11 +54,11 @@ module _ (p q : ℕ → Bool) (k : ℕ) (was : p k ≡ true) (is : q k ≡ false
 unfoldable pub free_slots : List ℕ → ℕ
 free_slots book = count (free book) slots
 
-by : (book r : List ℕ) (found : Judged) → judged r ≡ found → Valid book → answer_by book found ≡ Taken → free_slots book ≡ free_slots (book_by book r found) + 1
+by : (book r : List ℕ) (found : Result Change Refusal) → judged r ≡ found → Valid book → answer_by book found ≡ Ok tt → free_slots book ≡ free_slots (book_by book r found) + 1
 unfolding answer_by book_by free_slots
-by book r (RefusedRecord x) e v t = not_taken t
-by book r (Empty k) e v t = absurd (never_empties r k e)
-by book r (Put k) e v t =
+by book r (Err x) e v t = not_taken t
+by book r (Ok (Empty k)) e v t = absurd (never_empties r k e)
+by book r (Ok (Put k)) e v t =
     let below = put_below r k e in
     let long = stored_long r k e in
     let f = was_free book k t in
@@ -67,19 +67,19 @@ by book r (Put k) e v t =
     (held_filled (book_with book k (stored_of r)) k k (ap judged (slot_same book k (stored_of r) v.size below long) ∙ stored_judged r k e)) slots below
     (λ j h ne. sym (free_same (book_with book k (stored_of r)) book j (slot_other book k (stored_of r) v.size below long j h ne))))
 
-fills : (book r : List ℕ) → Valid book → answer_of book r ≡ Taken → free_slots book ≡ free_slots (book_after book r) + 1
+fills : (book r : List ℕ) → Valid book → answer_of book r ≡ Ok tt → free_slots book ≡ free_slots (book_after book r) + 1
 unfolding answer_of book_after
 fills book r v t = by book r (judged r) refl v t
 
-pub fills_all : (book : List ℕ) (rs : List (List ℕ)) → Valid book → answer_all book rs ≡ Taken → free_slots book ≡ free_slots (book_all book rs) + length rs
+pub fills_all : (book : List ℕ) (rs : List (List ℕ)) → Valid book → answer_all book rs ≡ Ok tt → free_slots book ≡ free_slots (book_all book rs) + length rs
 unfolding answer_all book_all
 fills_all book [] v t = omega arith
 fills_all book (r ∷ rs) v t = go (answer_of book r) refl (fills_all (book_after book r) rs (kept book r v)) t
   where
     go :
-        (p : Posted) → answer_of book r ≡ p →
-        (answer_all (book_after book r) rs ≡ Taken → free_slots (book_after book r) ≡ free_slots (book_all (book_after book r) rs) + length rs) →
-        onward p (answer_all (book_after book r) rs) p ≡ Taken →
+        (p : Result Unit Refusal) → answer_of book r ≡ p →
+        (answer_all (book_after book r) rs ≡ Ok tt → free_slots (book_after book r) ≡ free_slots (book_all (book_after book r) rs) + length rs) →
+        onward p (answer_all (book_after book r) rs) p ≡ Ok tt →
         free_slots book ≡ free_slots (onward p (book_all (book_after book r) rs) (book_after book r)) + suc (length rs)
-    go Taken e later u = omega (arith, fills book r v e, later u)
-    go (Refused x) e later u = not_taken u
+    go (Ok unit) e later u = omega (arith, fills book r v e, later u)
+    go (Err x) e later u = not_taken u
