@@ -3,16 +3,17 @@
 use Prim.Native.Nat.{ℕ}
 use mathlib.Core.List.{List, [], ◌∷◌}
 use mathlib.Core.Path.{◌≡◌, refl, sym, ap, ◌∙◌}
-use Rattle.book.specs.Book.{answer_of, book_after}
+use Rattle.std.specs.Prelude.{Result, Ok, Err}
+use Rattle.refusals.specs.declared.Refusal.{Refusal}
+use Rattle.book.specs.Book.{answer_of, book_after, taken}
 use Rattle.book.specs.Run.{onward, answer_all, book_all}
-use Rattle.book.specs.declared.Posted.{Posted, TheVariants.Taken, TheVariants.Refused}
 use Rattle.book_theorems.specs.Each.{book_each}
 use Rattle.book_theorems.proofs.Own.{refused_same}
 
 -- a record that is taken is appended to the log, and one that is refused is not
-abbrev pub appended : Posted → List ℕ → List (List ℕ) → List (List ℕ)
-appended Taken r log = r ∷ log
-appended (Refused x) r log = log
+abbrev pub appended : Result Unit Refusal → List ℕ → List (List ℕ) → List (List ℕ)
+appended (Ok unit) r log = r ∷ log
+appended (Err x) r log = log
 
 unfoldable pub log_of : List ℕ → List (List ℕ) → List (List ℕ)
 log_of book [] = []
@@ -20,18 +21,18 @@ log_of book (r ∷ rs) = appended (answer_of book r) r (log_of (book_after book 
 
 -- what posting a log, record by record until one is refused, comes to
 pub record Replayed (book : List ℕ) (rs : List (List ℕ)) : Type 0 where
-  pub all_taken : answer_all book (log_of book rs) ≡ Taken
+  pub all_taken : answer_all book (log_of book rs) ≡ taken
   pub same_book : book_all book (log_of book rs) ≡ book_each book rs
 
 module _ (book r : List ℕ) (rs : List (List ℕ)) (later : Replayed (book_after book r) rs) where
-  replayed_by : (answer : Posted) → answer_of book r ≡ answer →
-      (answer_all book (appended answer r (log_of (book_after book r) rs)) ≡ Taken) × (book_all book (appended answer r (log_of (book_after book r) rs)) ≡ book_each (book_after book r) rs)
+  replayed_by : (answer : Result Unit Refusal) → answer_of book r ≡ answer →
+      (answer_all book (appended answer r (log_of (book_after book r) rs)) ≡ taken) × (book_all book (appended answer r (log_of (book_after book r) rs)) ≡ book_each (book_after book r) rs)
   unfolding answer_all book_all
-  replayed_by Taken taken = (
-    ap (λ (a : Posted). onward a (answer_all (book_after book r) (log_of (book_after book r) rs)) a) taken ∙ later.all_taken,
-    ap (λ (a : Posted). onward a (book_all (book_after book r) (log_of (book_after book r) rs)) (book_after book r)) taken ∙ later.same_book,
+  replayed_by (Ok unit) t = (
+    ap (λ (a : Result Unit Refusal). onward a (answer_all (book_after book r) (log_of (book_after book r) rs)) a) t ∙ later.all_taken,
+    ap (λ (a : Result Unit Refusal). onward a (book_all (book_after book r) (log_of (book_after book r) rs)) (book_after book r)) t ∙ later.same_book,
   )
-  replayed_by (Refused x) refused =
+  replayed_by (Err x) refused =
       let same = refused_same book r x refused in (
         ap (λ (b : List ℕ). answer_all b (log_of (book_after book r) rs)) (sym same) ∙ later.all_taken,
         ap (λ (b : List ℕ). book_all b (log_of (book_after book r) rs)) (sym same) ∙ later.same_book,

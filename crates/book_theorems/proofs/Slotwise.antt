@@ -7,12 +7,14 @@ use Prim.Native.Nat.{ℕ, ◌+◌, ◌*◌, ◌≤◌, ◌<◌}
 use borrow.Author.Tests.{eqb-true, eqb-false}
 use lib.Dec.{eqb}
 use lib.ListN.{length, get_or, length-replicate}
+use Rattle.std.specs.Prelude.{Result, Ok, Err, Some, None}
+use Rattle.refusals.specs.declared.Refusal.{Refusal}
 use Rattle.record_table.specs.Table.{record_bytes}
 use Rattle.number_bytes.specs.Number.{number_at}
 use Rattle.record_table.specs.Slot.{slots}
 use Rattle.record_judge.specs.Record.{judged, stored_of}
-use Rattle.record_judge.specs.declared.Judged.{Judged}
-use Rattle.record_judge.specs.declared.Judged.TheVariants.{Refused as RefusedRecord, Put, Empty}
+use Rattle.record_judge.specs.declared.Change.{Change}
+use Rattle.record_judge.specs.declared.Change.TheVariants.{Put, Empty}
 use Rattle.record_judge.proofs.StoredBytes.{stored_long}
 use Rattle.record_judge.proofs.Keys.{put_below, emptied_below}
 use Rattle.book.specs.Book.{record_at, free, nothing, book_with, book_by, book_after}
@@ -21,7 +23,6 @@ use Rattle.book.proofs.Slot.{slot_same, slot_other}
 use Rattle.book.proofs.Free.{first_byte}
 use Rattle.book.proofs.Kept.{kept}
 use Rattle.book_slots.specs.Field.{seen_at}
-use Rattle.book_slots.specs.declared.Seen.TheVariants.{Nothing, Value}
 use Rattle.book_slots.proofs.Within.{number_slot}
 use Rattle.book_theorems.specs.Each.{book_each}
 
@@ -31,10 +32,10 @@ bare held = eqb (get_or held 0 0) 0
 
 -- what stands in slot k after a record: its bytes, where it puts them there and nothing stood there, or nothing, where it empties the slot; and after some
 -- records
-unfoldable pub held_by : ℕ → List ℕ → List ℕ → Judged → List ℕ
-held_by k held r (RefusedRecord x) = held
-held_by k held r (Put j) = cond (eqb j k && bare held) (stored_of r) held
-held_by k held r (Empty j) = cond (eqb j k) nothing held
+unfoldable pub held_by : ℕ → List ℕ → List ℕ → Result Change Refusal → List ℕ
+held_by k held r (Err x) = held
+held_by k held r (Ok (Put j)) = cond (eqb j k && bare held) (stored_of r) held
+held_by k held r (Ok (Empty j)) = cond (eqb j k) nothing held
 
 unfoldable pub held_after : ℕ → List ℕ → List (List ℕ) → List ℕ
 held_after k held [] = held
@@ -65,13 +66,13 @@ and_true true = refl
 and_true false = refl
 
 module _ (book r : List ℕ) (v : Valid book) (k : ℕ) (h : k < slots) where
-  by : (found : Judged) → judged r ≡ found → record_at (book_by book r found) k ≡ held_by k (record_at book k) r found
+  by : (found : Result Change Refusal) → judged r ≡ found → record_at (book_by book r found) k ≡ held_by k (record_at book k) r found
   unfolding book_by held_by
-  by (RefusedRecord x) e = refl
-  by (Put j) e =
+  by (Err x) e = refl
+  by (Ok (Put j)) e =
       into book (stored_of r) v (stored_long r j e) k h (free book) j (put_below r j e) (eqb j k) refl
       ∙ ap (λ (b : Bool). cond (eqb j k && b) (stored_of r) (record_at book k)) (free_bare book k)
-  by (Empty j) e =
+  by (Ok (Empty j)) e =
       into book nothing v (length-replicate {A = ℕ} record_bytes 0) k h (λ i. true) j (emptied_below r j e) (eqb j k) refl
       ∙ ap (λ (b : Bool). cond b nothing (record_at book k)) (and_true (eqb j k))
 
@@ -98,8 +99,8 @@ module _ (book : List ℕ) (k : ℕ) {held : List ℕ} (stands : record_at book 
     pub number_held : number_at book (k * record_bytes + at) wide ≡ number_at held at wide
     number_held = sym (number_slot book k at wide inside) ∙ ap (λ (r : List ℕ). number_at r at wide) stands
 
-    pub seen_held : seen_at book k at wide ≡ cond (not (bare held)) (Value (number_at held at wide)) Nothing
+    pub seen_held : seen_at book k at wide ≡ cond (not (bare held)) (Some (number_at held at wide)) None
     unfolding seen_at
     seen_held =
-        ap (λ (b : Bool). cond b (Value (number_at book (k * record_bytes + at) wide)) Nothing) filled_held
-        ∙ ap (λ (x : ℕ). cond (not (bare held)) (Value x) Nothing) number_held
+        ap (λ (b : Bool). cond b (Some (number_at book (k * record_bytes + at) wide)) None) filled_held
+        ∙ ap (λ (x : ℕ). cond (not (bare held)) (Some x) None) number_held
