@@ -1,5 +1,5 @@
 // The protocol's defaults (02, (i)): the mass, the table solids and the B0 of a livestock, by Tables A.2, A.3 and A.5.
-#![tactic(auto)]
+#![tactic(auto, unfolding(crate::specs::Tables::masses, crate::specs::Tables::b0s, crate::specs::Tables::solids, crate::specs::Tables::states, crate::specs::Tables::mass_of, crate::specs::Tables::b0_of, crate::specs::Tables::by_state, crate::specs::Tables::solids_entry, crate::specs::Tables::solids_by, crate::specs::Tables::solids_of, crate::specs::Tables::goes_by_state, crate::specs::Tables::asks_state, crate::specs::StandsFor::stands_for))]
 
 pub mod tables;
 

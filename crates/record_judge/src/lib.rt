@@ -1,5 +1,5 @@
 // A record alone: its mark, its zero bytes and its fields; and what it does, where nothing is wrong with them.
-#![tactic(auto, unfolding(record_table::specs::Slot::count, record_table::specs::Slot::total, record_table::specs::Slot::slot_of, record_fields::specs::Entry::in_range, record_fields::specs::Entry::outside_at, crate::specs::Record::nonzero_in, crate::specs::Record::outside_in, crate::specs::Record::key_in, crate::specs::Record::key_of, crate::specs::Record::verdict, crate::specs::Record::judged_as, crate::specs::Keyed::key_outside, crate::specs::Keyed::keyed, crate::specs::Keyed::livestock_outside))]
+#![tactic(auto, unfolding(record_table::specs::Slot::count, record_table::specs::Slot::total, record_table::specs::Slot::slot_of, record_fields::specs::Entry::in_range, record_fields::specs::Entry::outside_at, crate::specs::Record::nonzero_in, crate::specs::Record::outside_in, crate::specs::Record::key_in, crate::specs::Record::key_of, crate::specs::Record::verdict, crate::specs::Record::judged_as, crate::specs::Keyed::key_outside, crate::specs::Keyed::keyed, crate::specs::Keyed::livestock_outside, crate::specs::Defaults::is_defaults))]
 
 pub mod rows;
 
