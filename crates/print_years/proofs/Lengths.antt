@@ -13,8 +13,8 @@ use Rattle.print_year.specs.Text.{year_text}
 use Rattle.print_year.proofs.Lengths.{year_length, solids_length, grams_length, tonnes_length, lines_length}
 use Rattle.print_years.specs.Page.{year_bytes}
 
-pub refusal_fits : (refusal : Refusal) → refusal.number < 2 ^ 8 → refusal.place < 2 ^ 64 → length (refusal_text refusal) ≤ year_bytes
-refusal_fits refusal number place = omega (arith, refusal_most refusal number place)
+pub refusal_fits : (refusal : Refusal) → refusal.place < 2 ^ 64 → length (refusal_text refusal) ≤ year_bytes
+refusal_fits refusal place = omega (arith, refusal_most refusal place)
 
 -- the figures as code holds them
 pub record Held (f : Figures) : Type 0 where

@@ -7,8 +7,7 @@ use lib.ListN.{length}
 use Rattle.refusals.specs.declared.Refusal.{Refusal}
 use Rattle.year_months.specs.Series.{last_year}
 use Rattle.year.specs.declared.Figures.{Figures}
-use Rattle.year.specs.declared.Answer.{Answer}
-use Rattle.year.specs.declared.Answer.TheVariants.{Stated, Refused}
+use Rattle.std.specs.Prelude.{Result, Ok, Err}
 use Rattle.year.specs.Answer.{answer_of}
 use Rattle.print_page.specs.Page.{Lays}
 use Rattle.print_refusal.specs.Text.{refusal_text}
@@ -38,12 +37,12 @@ one_year : (book : List ℕ) (year : ℕ) → year ≤ last_year → from book y
 unfolding from years_from
 one_year book year h = let e : suc last_year - year ≡ suc (suc last_year - (year + 1)) = omega arith in ap (years_from book year) e
 
-module _ {book start page : List ℕ} {year at : ℕ} (w : Walked book start year at page) (h : year ≤ last_year) {answer : Answer} (e : answer ≡ answer_of book year) where
+module _ {book start page : List ℕ} {year at : ℕ} (w : Walked book start year at page) (h : year ≤ last_year) {answer : Result Figures Refusal} (e : answer ≡ answer_of book year) where
   answered : printed book ≡ w.text ++ answer_text year answer (from book (year + 1))
-  answered = w.rest ∙ ap (λ (t : List ℕ). w.text ++ t) (one_year book year h) ∙ ap (λ (a : Answer). w.text ++ answer_text year a (from book (year + 1))) (sym e)
+  answered = w.rest ∙ ap (λ (t : List ℕ). w.text ++ t) (one_year book year h) ∙ ap (λ (a : Result Figures Refusal). w.text ++ answer_text year a (from book (year + 1))) (sym e)
 
   pub stated :
-      {f : Figures} {end : ℕ} {after : List ℕ} → answer ≡ Stated f → Lays page at (year_text year f) end after → length (year_text year f) ≤ year_bytes →
+      {f : Figures} {end : ℕ} {after : List ℕ} → answer ≡ Ok f → Lays page at (year_text year f) end after → length (year_text year f) ≤ year_bytes →
       Walked book start (year + 1) end after
   unfolding answer_text
   stated {f} {end} {after} d x fits =
@@ -54,16 +53,16 @@ module _ {book start page : List ℕ} {year at : ℕ} (w : Walked book start yea
         text = w.text ++ year_text year f;
         lays = joined w.lays x (omega arith);
         rest =
-            answered ∙ ap (λ (a : Answer). w.text ++ answer_text year a (from book (year + 1))) d
+            answered ∙ ap (λ (a : Result Figures Refusal). w.text ++ answer_text year a (from book (year + 1))) d
             ∙ sym (append_assoc w.text (year_text year f) (from book (year + 1)));
       }
 
   pub refused :
-      {refusal : Refusal} {end : ℕ} {after : List ℕ} → answer ≡ Refused refusal → Lays page at (refusal_text refusal) end after →
+      {refusal : Refusal} {end : ℕ} {after : List ℕ} → answer ≡ Err refusal → Lays page at (refusal_text refusal) end after →
       Lays start 0 (printed book) end after
   unfolding answer_text
   refused {refusal} {end} {after} d x =
-      rw (answered ∙ ap (λ (a : Answer). w.text ++ answer_text year a (from book (year + 1))) d) (joined w.lays x (omega arith))
+      rw (answered ∙ ap (λ (a : Result Figures Refusal). w.text ++ answer_text year a (from book (year + 1))) d) (joined w.lays x (omega arith))
 
 pub ended : {book start page : List ℕ} {year at : ℕ} → Walked book start year at page → last_year < year → Lays start 0 (printed book) at page
 unfolding from years_from

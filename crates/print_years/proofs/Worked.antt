@@ -3,10 +3,11 @@ use mathlib.Core.Path.{◌≡◌, refl}
 use mathlib.Core.List.{List}
 use Prim.Native.Nat.{ℕ}
 use lib.IntN.{pos}
-use Rattle.refusals.specs.Refusal.{refusal, lacking}
+use Rattle.std.specs.Prelude.{Ok, Err}
+use Rattle.refusals.specs.Refusal.{refusal}
+use Rattle.refusals.specs.declared.Reason.TheVariants.{Lacking}
 use Rattle.units.specs.Grams.{solids, co2e}
 use Rattle.year.specs.declared.Figures.{Figures}
-use Rattle.year.specs.declared.Answer.TheVariants.{Stated, Refused}
 use Rattle.print_page.specs.Number.{word, last_digits, decimal, signed}
 use Rattle.print_refusal.specs.Text.{refusal_text}
 use Rattle.print_year.specs.Text.{heading_text, solids_text, grams_text, tonnes_text, year_text}
@@ -28,7 +29,7 @@ worked =
 
 -- year 1 is stated and year 2 refused, so that no later year is printed, whatever it is
 pub printed_whole :
-    (later : List ℕ) → answer_text 1 (Stated worked) (answer_text 2 (Refused (refusal lacking 13)) later)
+    (later : List ℕ) → answer_text 1 (Ok worked) (answer_text 2 (Err (refusal Lacking 13)) later)
     ≡ word "year 1\nentered 175200000 degraded 175200000 removed 0 carried 0\nbaseline 600445440 project 12000000 metered 504000000\nnet 498 credited 498\nrefused 8 at 13\n"
 unfolding answer_text year_text heading_text solids_text grams_text tonnes_text refusal_text decimal signed last_digits
 printed_whole later = refl

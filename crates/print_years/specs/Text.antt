@@ -1,15 +1,16 @@
 -- What the year program prints for a book (01, "Figures to check"). Assumes nothing.
-use Rattle.std.specs.Prelude.{ℕ, zero, suc, ◌+◌, ◌-◌, List, [], ◌++◌}
+use Rattle.std.specs.Prelude.{ℕ, zero, suc, ◌+◌, ◌-◌, List, [], ◌++◌, Result, Ok, Err}
 use Rattle.year_months.specs.Series.{first_year, last_year}
 use Rattle.year.specs.Answer.{answer_of}
-use Rattle.year.specs.declared.Answer.{Answer, TheVariants.Stated, TheVariants.Refused}
+use Rattle.refusals.specs.declared.Refusal.{Refusal}
+use Rattle.year.specs.declared.Figures.{Figures}
 use Rattle.print_refusal.specs.Text.{refusal_text}
 use Rattle.print_year.specs.Text.{year_text}
 
 -- a year's own lines, and the later years where it is stated: a refused year prints its refusal in place of its four lines and is the last
-unfoldable pub answer_text : ℕ → Answer → List ℕ → List ℕ
-answer_text year (Stated figures) later = year_text year figures ++ later
-answer_text year (Refused refusal) later = refusal_text refusal
+unfoldable pub answer_text : ℕ → Result Figures Refusal → List ℕ → List ℕ
+answer_text year (Ok figures) later = year_text year figures ++ later
+answer_text year (Err refusal) later = refusal_text refusal
 
 -- n years of a book, from `year` on
 unfoldable pub years_from : List ℕ → ℕ → ℕ → List ℕ

@@ -8,8 +8,6 @@ ghost use Rattle.print_page.specs.Page.{Lays};
 ghost use Rattle.print_years.specs.Text.{printed};
 ghost use Rattle.print_years.specs.Page.{page_bytes};
 
-use year::Answer;
-
 // The years that are printed: 1 to 10.
 const YEARS: u64 = 10;
 
@@ -27,10 +25,10 @@ pub fn lay_years(book: &[u8], page: &mut [u8]) -> usize
     let mut at = 0;
     for year in 1..=YEARS {
         match year::year(book, year) {
-            Answer::Stated(figures) => {
+            Ok(figures) => {
                 at = print_year::lay_year(page, at, year, figures);
             }
-            Answer::Refused(refusal) => {
+            Err(refusal) => {
                 return print_refusal::lay_refusal(page, at, refusal);
             }
         }

@@ -4,14 +4,11 @@
 ghost use Rattle.std.specs.Prelude.{◌≡◌};
 ghost use Rattle.book.specs.Valid.{Valid};
 ghost use Rattle.year_months.specs.Asks.{InPeriod};
-ghost use Rattle.refusals.specs.Refusal.{refusal};
-ghost use Rattle.year.specs.declared.Answer.TheVariants.{Refused};
 ghost use Rattle.year.specs.Figures.{figures_of};
-ghost use Rattle.year.specs.Answer.{answer_of, whole_year};
+ghost use Rattle.year.specs.Answer.{answer_of};
 
-use refusals::Refusal;
+use refusals::{Reason, Refusal};
 use units::{Co2e, Solids};
-use year_needs::Completeness;
 
 // The years of the crediting period.
 const FIRST_YEAR: u64 = 1;
@@ -33,49 +30,21 @@ pub struct Figures {
     pub credited: u64,
 }
 
-#[derive(Clone, Copy)]
-pub enum Answer {
-    Stated(Figures),
-    Refused(Refusal),
-}
-
 // A year is refused if it is not a year of the crediting period (9), if it lacks a record (8), before anything is
-// added up, or for a category's shares (7); else its figures are stated.
-pub fn year(book: &[u8], year: u64) -> Answer
+// added up, or for a category's shares (7); else its figures are stated. No sum of it can pass 2^63, so that nothing
+// looks for it (12).
+#[tactic(auto, using(crate::proofs::Never::never), unfolding(crate::specs::Answer::answer_of, crate::specs::Answer::whole_year, year_shares::specs::Shares::fit_of))]
+pub fn year(book: &[u8], year: u64) -> Result<Figures, Refusal>
     requires { Valid book.now }
     ensures { result ≡ answer_of book.now year }
 {
-    if year < FIRST_YEAR {
-        return refused(refusals::NO_SUCH_YEAR, 0);
-    }
-    if LAST_YEAR < year {
-        return refused(refusals::NO_SUCH_YEAR, 0);
+    if year < FIRST_YEAR || LAST_YEAR < year {
+        return Err(Reason::NoSuchYear.at(0));
     }
     let counted = year as usize;
-    let found = year_needs::complete(book, counted);
-    let Completeness::Complete = found else {
-        return refused(refusals::LACKING, found.place());
-    };
-    whole_year(book, counted)
-}
-
-fn refused(number: u8, place: usize) -> Answer
-    ensures { result ≡ Refused (refusal number place) }
-{
-    Answer::Refused(Refusal { number, place })
-}
-
-// A year that has its records. No sum of it can pass 2^63, so that nothing looks for it.
-fn whole_year(book: &[u8], year: usize) -> Answer
-    requires valid { Valid book.now }
-    requires in_period { InPeriod year }
-    ensures { result ≡ whole_year book.now year }
-{
-    let over = year_shares::over_shared(book);
-    if over <= record_table::CATEGORIES {
-        return refused(refusals::OVER_SHARED, over);
-    }
-    Answer::Stated(figures_of(book, year))
+    year_needs::complete(book, counted)?;
+    year_shares::fit(book)?;
+    Ok(figures_of(book, counted))
 }
 
 fn figures_of(book: &[u8], year: usize) -> Figures

@@ -13,7 +13,7 @@ use Rattle.calendar.specs.Days.{months_in_year}
 use Rattle.record_table.specs.Table.{months, devices}
 use Rattle.book.specs.Valid.{Valid}
 use Rattle.book_slots.specs.Reads.{project_methane_of, baseline_co2_of, project_co2_of, destroyed_of}
-use Rattle.book_slots.specs.declared.Seen.{Seen}
+use Rattle.std.specs.Prelude.{Option}
 use Rattle.year_months.specs.Asks.{InPeriod}
 use Rattle.year_months.specs.Series.{amount_of, months_before}
 use Rattle.year_credit.specs.Asks.{OperatorFits}
@@ -43,14 +43,14 @@ operator_fits operator o =
     }
 
 -- a figure of PE, read month by month after those before the year
-module _ (read : ℕ → Seen) (before : ℕ) where
+module _ (read : ℕ → Option ℕ) (before : ℕ) where
   abbrev grams : ℕ → ℕ
   grams m = (grams_of (read (before + m))).0
 
   pub sum_small : (n : ℕ) → ((m : ℕ) → 1 ≤ m → m ≤ n → amount_of (read (before + m)) < 2 ^ 32) → sum n grams ≤ n * kilograms_most
   sum_small n small = sum_most grams kilograms_most n (λ m low high. omega (arith, small m low high))
 
-  module _ (nth : ℕ) {at : ℕ} {seen : Seen} {total one : Co2e} (low : 1 ≤ nth) (at-is : at ≡ before + nth) (seen-is : seen ≡ read at)
+  module _ (nth : ℕ) {at : ℕ} {seen : Option ℕ} {total one : Co2e} (low : 1 ≤ nth) (at-is : at ≡ before + nth) (seen-is : seen ≡ read at)
       (one-is : one ≡ grams_of seen) (is : total ≡ co2e (sum (nth - 1) grams)) where
     own : one.0 ≡ grams nth
     own = ap (λ (x : Co2e). x.0) (one-is ∙ ap grams_of seen-is) ∙ ap (λ (m : ℕ). (grams_of (read m)).0) at-is

@@ -1,11 +1,11 @@
 -- The year's credit: what the operator entered, the lesser of modelled and metered, and the total (01, "The year"; Equations 5.1, 5.10).
-use Rattle.std.specs.Prelude.{ℕ, ◌+◌, ◌*◌}
+use Rattle.std.specs.Prelude.{ℕ, ◌+◌, ◌*◌, Option}
 use mathlib.Core.{Bool.cond, List.List}
 use lib.{IntN.ℤ, IntN.pos, IntN.◌+ℤ◌, IntN.◌-ℤ◌, Signed.le_z}
 use Rattle.laws.specs.Counting.{sum}
 use Rattle.units.specs.{Grams.methane, Grams.co2e, Grams.potential, Grams.warming_of, declared.co2e.Co2e.Co2e, declared.methane.Methane.Methane}
 use Rattle.record_table.specs.Table.{devices}
-use Rattle.book_slots.specs.{Reads.project_methane_of, Reads.baseline_co2_of, Reads.project_co2_of, Reads.destroyed_of, declared.Seen.Seen}
+use Rattle.book_slots.specs.{Reads.project_methane_of, Reads.baseline_co2_of, Reads.project_co2_of, Reads.destroyed_of}
 use Rattle.year_months.specs.Series.{amount_of, over_year}
 use Rattle.year_credit.specs.declared.Operator.{Operator}
 
@@ -13,7 +13,7 @@ use Rattle.year_credit.specs.declared.Operator.{Operator}
 abbrev pub kilogram : ℕ
 kilogram = 1000
 
-abbrev pub grams_of : Seen → Co2e
+abbrev pub grams_of : Option ℕ → Co2e
 grams_of kilograms = co2e (kilogram * amount_of kilograms)
 
 -- what all devices destroyed in month m; one without MT counts 0

@@ -9,7 +9,6 @@ ghost use Rattle.year_months.specs.Asks.{InPeriod};
 ghost use Rattle.year_credit.specs.Credit.{grams_of, destroyed_at, operator_of, modelled_of, metered_of, lesser_of, total_of};
 ghost use Rattle.year_credit.specs.Asks.{sums_most, OperatorFits};
 
-use book_slots::Seen;
 use units::{Co2e, Methane};
 use year_months::MONTHS_IN_YEAR;
 
@@ -52,31 +51,30 @@ pub fn operator_of(book: &[u8], year: usize) -> Operator
     }
 }
 
-fn grams(kilograms: Seen) -> Co2e
+fn grams(kilograms: Option<u64>) -> Co2e
     requires { amount_of kilograms < 2 ^ 32 }
     ensures { result ≡ grams_of kilograms }
 {
-    Co2e::of_grams(KILOGRAM * year_months::amount(kilograms))
+    Co2e::of_grams(KILOGRAM * kilograms.unwrap_or(0))
 }
 
 // All devices; one without MT counts 0.
 fn destroyed_in(book: &[u8], month: usize) -> Methane
     requires valid { Valid book.now }
-    requires month_le_months { month ≤ months }
+    requires month_within { month ≤ months }
     ensures { result ≡ destroyed_at book.now month }
 {
     let mut destroyed = Methane::of_grams(0);
     for device in 1..=record_table::DEVICES {
-        destroyed = destroyed.plus(Methane::of_grams(year_months::amount(book_slots::destroyed(
-            book, month, device,
-        ))));
+        let grams = book_slots::destroyed(book, month, device).unwrap_or(0);
+        destroyed = destroyed.plus(Methane::of_grams(grams));
     }
     destroyed
 }
 
 // The methane reduction, plus the baseline's carbon dioxide, less the project's.
 pub fn total(baseline: Co2e, operator: Operator) -> i64
-    requires baseline_lt_sums_most { baseline.0 < sums_most }
+    requires baseline_fits { baseline.0 < sums_most }
     requires operator_fits { OperatorFits operator }
     ensures { result ≡ total_of baseline operator }
 {
@@ -85,7 +83,7 @@ pub fn total(baseline: Co2e, operator: Operator) -> i64
 }
 
 fn modelled(baseline: Co2e, operator: Operator) -> i64
-    requires baseline_lt_sums_most { baseline.0 < sums_most }
+    requires baseline_fits { baseline.0 < sums_most }
     requires operator_fits { OperatorFits operator }
     ensures { result ≡ modelled_of baseline operator }
 {

@@ -1,15 +1,19 @@
 -- The shares of the categories: a loop over the lines adds each line's share to the sum of its category.
 -- Assumes nothing.
-use Prim.Native.Nat.{ℕ, ◌+◌, ◌-◌, ◌≤◌}
+use Prim.Native.Nat.{ℕ, ◌+◌, ◌-◌, ◌≤◌, ◌<◌}
 use mathlib.Core.Bool.{Bool, true, false, cond}
 use mathlib.Core.List.{List}
 use mathlib.Core.Path.{sym, ap, ◌≡◌, ◌∙◌}
 use native.Mathlib.Decide.{ℕ_discrete}
 use native.Mathlib.Omega.{arith}
-use borrow.Author.Tests.{eq-eqb, ne_eqb}
-use lib.Dec.{eqb}
+use borrow.Author.Tests.{eq-eqb, ne_eqb, le-leb, lt-leb}
+use lib.Dec.{eqb, leb}
 use lib.ListN.{get_or, set, replicate, length-set, length-replicate, get_or-replicate}
 use lib.Seq.{get_or-set_same, get_or-set_other}
+use Rattle.std.specs.Prelude.{Result, Ok, Err, ⊤}
+use Rattle.refusals.specs.Refusal.{refusal}
+use Rattle.refusals.specs.declared.Refusal.{Refusal}
+use Rattle.refusals.specs.declared.Reason.TheVariants.{OverShared}
 use Rattle.laws.proofs.Counting.{sum_none, sum_more, sum_most}
 use Rattle.laws.specs.Counting.{sum}
 use Rattle.record_table.specs.Table.{lines, categories}
@@ -17,7 +21,7 @@ use Rattle.book.specs.Valid.{Valid}
 use Rattle.book_herd.specs.Herd.{line_of}
 use Rattle.book_herd.specs.declared.Line.{Line}
 use Rattle.year_shares.specs.Asks.{Shared}
-use Rattle.year_shares.specs.Shares.{share_in, shares_of}
+use Rattle.year_shares.specs.Shares.{share_in, shares_of, over_of, fit_of}
 use Rattle.year_shares.proofs.Ranges.{share_ranged}
 
 module _ (book : List ℕ) where
@@ -88,3 +92,18 @@ shared_most book v n within shared category h =
       sum_most (λ line. share_in category (line_of book line)) 10000 n
           (λ line low high. share_most category (line_of book line) (share_ranged book v line (omega arith)).share),
     )
+
+-- what the search comes to is the answer
+abbrev answer : ℕ → Bool → Result ⊤ Refusal
+answer over above = cond above (Err (refusal OverShared over)) (Ok tt)
+
+module _ (book : List ℕ) (over : ℕ) (over-found : over ≡ over_of book) where
+  by_over : answer over (leb over categories) ≡ fit_of book
+  unfolding fit_of
+  by_over = ap (λ (k : ℕ). answer k (leb k categories)) over-found
+
+  pub over_is : over ≤ categories → answer over true ≡ fit_of book
+  over_is h = sym (ap (answer over) (le-leb over categories h)) ∙ by_over
+
+  pub fits_is : categories < over → answer over false ≡ fit_of book
+  fits_is h = sym (ap (answer over) (lt-leb over categories h)) ∙ by_over

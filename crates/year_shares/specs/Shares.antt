@@ -1,6 +1,7 @@
 -- Refusal 7: the shares of one category sum above the whole (01, "Refusal numbers").
-use Rattle.std.specs.Prelude.{ℕ, eqb, ltb}
+use Rattle.std.specs.Prelude.{ℕ, eqb, ltb, leb, Result, Ok, Err, ⊤}
 use mathlib.Core.{Bool.cond, List.List}
+use Rattle.refusals.specs.{Refusal.refusal, declared.Refusal.Refusal, declared.Reason.TheVariants.OverShared}
 use Rattle.laws.specs.Counting.{sum, first}
 use Rattle.record_table.specs.Table.{lines, categories}
 use Rattle.book_herd.specs.{Herd.line_of, declared.Line.Line}
@@ -19,3 +20,7 @@ shares_of book category = sum lines (λ line. share_in category (line_of book li
 -- the lowest category whose shares sum above the whole, or one past the categories
 unfoldable pub over_of : List ℕ → ℕ
 over_of book = first categories (λ category. ltb whole_share (shares_of book category))
+
+-- refusal 7, at that category
+unfoldable pub fit_of : List ℕ → Result ⊤ Refusal
+fit_of book = cond (leb (over_of book) categories) (Err (refusal OverShared (over_of book))) (Ok tt)

@@ -4,8 +4,10 @@
 ghost use Rattle.std.specs.Prelude.{◌≡◌};
 ghost use Rattle.book.specs.Valid.{Valid};
 ghost use Rattle.record_table.specs.Table.{lines};
-ghost use Rattle.year_shares.specs.Shares.{over_of};
+ghost use Rattle.year_shares.specs.Shares.{fit_of};
 ghost use Rattle.year_shares.specs.Asks.{Shared};
+
+use refusals::{Reason, Refusal};
 
 // Shares count ten-thousandths.
 const WHOLE_SHARE: u64 = 10_000;
@@ -13,18 +15,18 @@ const WHOLE_SHARE: u64 = 10_000;
 // Room for a sum at each category number. A line that is not in the book has number 0.
 const CATEGORY_SUMS: usize = record_table::CATEGORIES + 1;
 
-// The lowest category whose shares sum above the whole, or the one past all categories.
-pub fn over_shared(book: &[u8]) -> usize
+// Whether the shares of each category fit into the whole: else the lowest category whose shares do not.
+pub fn fit(book: &[u8]) -> Result<(), Refusal>
     requires { Valid book.now }
-    ensures { result ≡ over_of book.now }
+    ensures { result ≡ fit_of book.now }
 {
     let shares = shares(book);
     for category in 1..=record_table::CATEGORIES {
         if WHOLE_SHARE < shares[category] {
-            return category;
+            return Err(Reason::OverShared.at(category));
         }
     }
-    record_table::CATEGORIES + 1
+    Ok(())
 }
 
 // The sum of each category's shares.

@@ -11,24 +11,23 @@ loop-year-init c = begin _ _
 
 pub lay_year-at-requires : goal.lay_year-at-requires
 lay_year-at-requires c =
-    let held : Held c.in-Stated.figures = search rules in
-    omega (arith, year_fits c.loop-year.year c.in-Stated.figures (omega arith) held)
+    let held : Held c.in-Ok.figures = search rules in
+    omega (arith, year_fits c.loop-year.year c.in-Ok.figures (omega arith) held)
 
 pub lay_refusal-requires : goal.lay_refusal-requires
 lay_refusal-requires c =
-    let refusal = c.in-Refused.refusal in
-    let number : refusal.number < 2 ^ 8 = search rules in
+    let refusal = c.in-Err.refusal in
     let place : refusal.place < 2 ^ 64 = search rules in
-    omega (arith, refusal_fits refusal number place)
+    omega (arith, refusal_fits refusal place)
 
-pub returns-in-Refused : goal.returns-in-Refused
-returns-in-Refused c = refused c.loop-year.invariant c.loop-year-test.true c.year.ensures c.in-Refused.is c.lay_refusal.ensures
+pub returns-in-Err : goal.returns-in-Err
+returns-in-Err c = refused c.loop-year.invariant c.loop-year-test.true c.year.ensures c.in-Err.is c.lay_refusal.ensures
 
 pub loop-year-preserved : goal.loop-year-preserved
 loop-year-preserved c =
-    let held : Held c.in-Stated.figures = search rules in
-    stated c.loop-year.invariant c.loop-year-test.true c.year.ensures c.in-Stated.is c.lay_year-at.ensures
-    (year_fits c.loop-year.year c.in-Stated.figures (omega arith) held)
+    let held : Held c.in-Ok.figures = search rules in
+    stated c.loop-year.invariant c.loop-year-test.true c.year.ensures c.in-Ok.is c.lay_year-at.ensures
+    (year_fits c.loop-year.year c.in-Ok.figures (omega arith) held)
 
 pub returns : goal.returns
 returns c = ended c.loop-year.invariant c.loop-year-test.false

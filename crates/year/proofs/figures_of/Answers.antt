@@ -18,8 +18,8 @@ metered-metered-requires c =
     (operator_fits _ (operator_most c.args.book.now c.requires.valid c.args.year c.requires.in_period)) in
     operator-small
 
-pub total-requires-clause-baseline_lt_sums_most : goal.total-requires-clause-baseline_lt_sums_most
-total-requires-clause-baseline_lt_sums_most c =
+pub total-requires-clause-baseline_fits : goal.total-requires-clause-baseline_fits
+total-requires-clause-baseline_fits c =
     let operator-small : OperatorFits c.operator_of-operator.result = subst OperatorFits (sym c.operator_of-operator.ensures)
     (operator_fits _ (operator_most c.args.book.now c.requires.valid c.args.year c.requires.in_period)) in
     rw c.sums_of-sums.ensures (omega (

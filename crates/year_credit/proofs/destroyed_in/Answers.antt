@@ -18,7 +18,7 @@ pub loop-device-init : goal.loop-device-init
 loop-device-init c = (omega arith, omega arith, c.of_grams-destroyed.ensures ∙ ap methane (sum_none _))
 
 pub destroyed-requires : goal.destroyed-requires
-destroyed-requires c = (c.requires.valid, c.requires.month_le_months, omega arith)
+destroyed-requires c = (c.requires.valid, c.requires.month_within, omega arith)
 
 pub plus-destroyed-requires : goal.plus-destroyed-requires
 plus-destroyed-requires c =
@@ -26,12 +26,12 @@ plus-destroyed-requires c =
     let book = c.args.book.now in
     let month = c.args.month in
     let devices-before : loop.device - 1 ≤ 3 = omega arith in
-    rw (loop.invariant.2, c.of_grams.ensures, c.amount.ensures, c.destroyed.ensures)
+    rw (loop.invariant.2, c.of_grams.ensures, c.unwrap_or-grams.ensures, c.destroyed.ensures)
     (omega (
       arith,
       sum_most (λ device. amount_of (destroyed_of book month device)) (10 ^ 12) (loop.device - 1)
-          (λ device low high. destroyed_most_lem book c.requires.valid month device c.requires.month_le_months (omega arith)),
-      destroyed_most_lem book c.requires.valid month loop.device c.requires.month_le_months (omega arith),
+          (λ device low high. destroyed_most_lem book c.requires.valid month device c.requires.month_within (omega arith)),
+      destroyed_most_lem book c.requires.valid month loop.device c.requires.month_within (omega arith),
     ))
 
 pub overflow_step-device : goal.overflow_step-device
@@ -44,7 +44,7 @@ pub loop-device-preserved : goal.loop-device-preserved
 loop-device-preserved c =
     let loop = c.loop-device in
     let one : c.of_grams.result.0 ≡ amount_of (destroyed_of c.args.book.now c.args.month loop.device) =
-    ap (λ (grams : Methane). grams.0) c.of_grams.ensures ∙ c.amount.ensures ∙ ap amount_of
+    ap (λ (grams : Methane). grams.0) c.of_grams.ensures ∙ c.unwrap_or-grams.ensures ∙ ap amount_of
     c.destroyed.ensures in (
       omega arith,
       omega arith,

@@ -86,8 +86,8 @@ destroyed_in-requires-clause-valid c =
     let within : c.months_before-before.result + c.loop-nth.nth ≤ months = omega (arith, c.loop-nth.invariant.2, c.requires.in_period.high) in
     c.requires.valid
 
-pub destroyed_in-requires-clause-month_le_months : goal.destroyed_in-requires-clause-month_le_months
-destroyed_in-requires-clause-month_le_months c =
+pub destroyed_in-requires-clause-month_within : goal.destroyed_in-requires-clause-month_within
+destroyed_in-requires-clause-month_within c =
     let within : c.months_before-before.result + c.loop-nth.nth ≤ months = omega (arith, c.loop-nth.invariant.2, c.requires.in_period.high) in
     within
 

@@ -15,9 +15,9 @@ returns c =
     let fits = c.requires.operator_fits in
     lesser_is c.modelled.result c.signed.result (modelled_of baseline operator) (pos (metered_of operator).0)
     (read_back (modelled_of baseline operator) c.modelled.ensures
-    (omega (arith, minus_size (pos baseline.0) operator.project_methane.0, c.requires.baseline_lt_sums_most, fits.project_methane)))
+    (omega (arith, minus_size (pos baseline.0) operator.project_methane.0, c.requires.baseline_fits, fits.project_methane)))
     (read_back (pos (metered_of operator).0) (c.signed.ensures ∙ ap (λ (m : Co2e). pos m.0) c.metered.ensures)
     (omega (arith, fits.metered)))
     c.lesser-reduction.ensures in
-    total_read c.args.baseline c.args.operator c.requires.baseline_lt_sums_most c.requires.operator_fits reduced c.signed-2.ensures
+    total_read c.args.baseline c.args.operator c.requires.baseline_fits c.requires.operator_fits reduced c.signed-2.ensures
     c.signed-3.ensures

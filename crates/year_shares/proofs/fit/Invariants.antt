@@ -1,4 +1,4 @@
--- `year_shares::over_shared` meets its contract: the search passes each category whose shares do not sum above the whole.
+-- `year_shares::fit` meets its contract: the search passes each category whose shares do not sum above the whole.
 -- Assumes nothing.
 use Prim.Native.Nat.{◌+◌, ◌-◌, ◌≤◌}
 use mathlib.Core.Path.{◌≡◌}
@@ -6,7 +6,7 @@ use lib.Dec.{ltb}
 use Rattle.laws.specs.Counting.{first, first_from}
 use Rattle.record_table.specs.Table.{categories}
 use Rattle.year_shares.specs.Shares.{shares_of, whole_share}
-use Rattle.year_shares.proofs.over_shared.Given as goal
+use Rattle.year_shares.proofs.fit.Given as goal
 
 abbrev pub invariant-loop-category : goal.invariant-loop-category
 invariant-loop-category l =
