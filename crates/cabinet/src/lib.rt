@@ -7,27 +7,22 @@ ghost use Rattle.book.specs.Book.{answer_of, book_after};
 ghost use Rattle.book.specs.Valid.{Valid};
 ghost use Rattle.year.specs.Answer.{answer_of as year_answer_of};
 ghost use Rattle.meter_month.specs.Month.{month_of as meter_month_of, feet_month_of};
-ghost use Rattle.meter_series.specs.Series.{amount};
 ghost use Rattle.meter_feet.specs.Feet.{recorded_of};
 ghost use Rattle.meter_reading.specs.Exact.{litres_of, hundredths_of};
 ghost use Rattle.cabinet.specs.Face.{sized, emptied, posted_of, year_of, month_of, feet_hour_of, reading_of};
-ghost use Rattle.year.specs.declared.Answer.TheVariants.{Stated, Refused};
 
-use book::Posted;
 use meter_feet::Sample;
-use meter_hour::Hour;
-use meter_month::MonthAnswer;
-use meter_reading::Measure;
-use meter_series::Value;
+use meter_hour::Recorded;
 use refusals::Refusal;
-use year::{Answer, Figures};
+use units::Methane;
+use year::Figures;
 
 // The number that says that nothing was refused.
 const NOT_REFUSED: u64 = 0;
 
 // A record: a refusal's number and place.
 #[repr(C)]
-#[derive(Clone, Copy)]
+#[derive(Clone, Copy, Default)]
 pub struct CabinetPosted {
     pub number: u64,
     pub place: u64,
@@ -35,7 +30,7 @@ pub struct CabinetPosted {
 
 // A year: a refusal's number and place, or grams of solids, grams of carbon dioxide equivalent, and tonnes.
 #[repr(C)]
-#[derive(Clone, Copy)]
+#[derive(Clone, Copy, Default)]
 pub struct CabinetYear {
     pub number: u64,
     pub place: u64,
@@ -52,7 +47,7 @@ pub struct CabinetYear {
 
 // A meter month: a refusal's number and place, or grams of methane.
 #[repr(C)]
-#[derive(Clone, Copy)]
+#[derive(Clone, Copy, Default)]
 pub struct CabinetMonth {
     pub number: u64,
     pub place: u64,
@@ -61,7 +56,7 @@ pub struct CabinetMonth {
 
 // One reading: whether it is taken, and what it counts.
 #[repr(C)]
-#[derive(Clone, Copy)]
+#[derive(Clone, Copy, Default)]
 pub struct CabinetReading {
     pub taken: bool,
     pub whole: u64,
@@ -69,13 +64,105 @@ pub struct CabinetReading {
 
 // One hour of a meter in cubic feet: whether it is taken, and its flow and its content, where they are there.
 #[repr(C)]
-#[derive(Clone, Copy)]
+#[derive(Clone, Copy, Default)]
 pub struct CabinetFeetHour {
     pub taken: bool,
     pub has_flow: bool,
     pub has_content: bool,
     pub flow: u64,
     pub content: u64,
+}
+
+// What each answer is to a C caller.
+impl From<Result<(), Refusal>> for CabinetPosted {
+    ghost from_gives = { λ answer face. face ≡ posted_of answer };
+
+    fn from(answer: Result<(), Refusal>) -> Self {
+        match answer {
+            Ok(()) => CabinetPosted {
+                number: NOT_REFUSED,
+                place: 0,
+            },
+            Err(refusal) => CabinetPosted {
+                number: u64::from(refusal.reason.number()),
+                place: refusal.place as u64,
+            },
+        }
+    }
+}
+
+impl From<Result<Figures, Refusal>> for CabinetYear {
+    ghost from_gives = { λ answer face. face ≡ year_of answer };
+
+    fn from(answer: Result<Figures, Refusal>) -> Self {
+        match answer {
+            Ok(figures) => CabinetYear {
+                number: NOT_REFUSED,
+                place: 0,
+                entered: figures.entered.grams(),
+                degraded: figures.degraded.grams(),
+                removed: figures.removed.grams(),
+                carried: figures.carried.grams(),
+                baseline: figures.baseline.grams(),
+                project_methane: figures.project_methane.grams(),
+                metered: figures.metered.grams(),
+                net: figures.net,
+                credited: figures.credited,
+            },
+            Err(refusal) => CabinetYear {
+                number: u64::from(refusal.reason.number()),
+                place: refusal.place as u64,
+                ..CabinetYear::default()
+            },
+        }
+    }
+}
+
+impl From<Result<Methane, Refusal>> for CabinetMonth {
+    ghost from_gives = { λ answer face. face ≡ month_of answer };
+
+    fn from(answer: Result<Methane, Refusal>) -> Self {
+        match answer {
+            Ok(methane) => CabinetMonth {
+                number: NOT_REFUSED,
+                place: 0,
+                destroyed: methane.grams(),
+            },
+            Err(refusal) => CabinetMonth {
+                number: u64::from(refusal.reason.number()),
+                place: refusal.place as u64,
+                destroyed: 0,
+            },
+        }
+    }
+}
+
+impl From<Option<Recorded>> for CabinetFeetHour {
+    ghost from_gives = { λ hour face. face ≡ feet_hour_of hour };
+
+    fn from(hour: Option<Recorded>) -> Self {
+        match hour {
+            Some(recorded) => CabinetFeetHour {
+                taken: true,
+                has_flow: recorded.flow.is_some(),
+                has_content: recorded.content.is_some(),
+                flow: recorded.flow.unwrap_or(0),
+                content: recorded.content.unwrap_or(0),
+            },
+            None => CabinetFeetHour::default(),
+        }
+    }
+}
+
+impl From<Option<u64>> for CabinetReading {
+    ghost from_gives = { λ reading face. face ≡ reading_of reading };
+
+    fn from(reading: Option<u64>) -> Self {
+        match reading {
+            Some(whole) => CabinetReading { taken: true, whole },
+            None => CabinetReading::default(),
+        }
+    }
 }
 
 // Makes lent memory an empty book. Memory of another size than a book's is left as it is, and the answer is false.
@@ -98,16 +185,7 @@ pub extern "C" fn cabinet_post(book: &mut [u8], posted: &[u8]) -> CabinetPosted
     ensures value { result ≡ posted_of (answer_of book.old posted.now) }
     ensures after { book.new ≡ book_after book.old posted.now }
 {
-    match book::post(book, posted) {
-        Posted::Taken => CabinetPosted {
-            number: NOT_REFUSED,
-            place: 0,
-        },
-        Posted::Refused(refusal) => CabinetPosted {
-            number: refusal.number as u64,
-            place: refusal.place as u64,
-        },
-    }
+    CabinetPosted::from(book::post(book, posted))
 }
 
 // A year of a book, for any year number.
@@ -116,53 +194,7 @@ pub extern "C" fn cabinet_year(book: &[u8], year: u64) -> CabinetYear
     requires { Valid book.now }
     ensures { result ≡ year_of (year_answer_of book.now year) }
 {
-    match year::year(book, year) {
-        Answer::Stated(figures) => stated(figures),
-        Answer::Refused(refusal) => refused(refusal),
-    }
-}
-
-fn stated(figures: Figures) -> CabinetYear
-    ensures { result ≡ year_of (Stated figures) }
-{
-    let entered = figures.entered;
-    let degraded = figures.degraded;
-    let removed = figures.removed;
-    let carried = figures.carried;
-    let baseline = figures.baseline;
-    let project_methane = figures.project_methane;
-    let metered = figures.metered;
-    CabinetYear {
-        number: NOT_REFUSED,
-        place: 0,
-        entered: entered.grams(),
-        degraded: degraded.grams(),
-        removed: removed.grams(),
-        carried: carried.grams(),
-        baseline: baseline.grams(),
-        project_methane: project_methane.grams(),
-        metered: metered.grams(),
-        net: figures.net,
-        credited: figures.credited,
-    }
-}
-
-fn refused(refusal: Refusal) -> CabinetYear
-    ensures { result ≡ year_of (Refused refusal) }
-{
-    CabinetYear {
-        number: refusal.number as u64,
-        place: refusal.place as u64,
-        entered: 0,
-        degraded: 0,
-        removed: 0,
-        carried: 0,
-        baseline: 0,
-        project_methane: 0,
-        metered: 0,
-        net: 0,
-        credited: 0,
-    }
+    CabinetYear::from(year::year(book, year))
 }
 
 // The month of one meter in cubic metres, for any lengths and any bytes.
@@ -175,7 +207,7 @@ pub extern "C" fn cabinet_month(
 ) -> CabinetMonth
     ensures { result ≡ month_of (meter_month_of flows.now contents.now states.now efficiency) }
 {
-    metered(meter_month::month(flows, contents, states, efficiency))
+    CabinetMonth::from(meter_month::month(flows, contents, states, efficiency))
 }
 
 // The month of one meter in cubic feet, for any lengths and any bytes.
@@ -191,24 +223,14 @@ pub extern "C" fn cabinet_feet_month(
     ensures { result ≡ month_of (feet_month_of flows.now contents.now temperatures.now pressures.now
         states.now efficiency) }
 {
-    metered(meter_month::feet_month(flows, contents, temperatures, pressures, states, efficiency))
-}
-
-fn metered(answer: MonthAnswer) -> CabinetMonth
-    ensures { result ≡ month_of answer }
-{
-    match answer {
-        MonthAnswer::Destroyed(methane) => CabinetMonth {
-            number: NOT_REFUSED,
-            place: 0,
-            destroyed: methane.grams(),
-        },
-        MonthAnswer::Refused(refusal) => CabinetMonth {
-            number: refusal.number as u64,
-            place: refusal.place as u64,
-            destroyed: 0,
-        },
-    }
+    CabinetMonth::from(meter_month::feet_month(
+        flows,
+        contents,
+        temperatures,
+        pressures,
+        states,
+        efficiency,
+    ))
 }
 
 // One hour of a meter in cubic feet.
@@ -228,38 +250,7 @@ pub extern "C" fn cabinet_feet_hour(
         temperature,
         pressure,
     };
-    recorded(meter_feet::recorded(sample, state))
-}
-
-fn recorded(hour: Hour) -> CabinetFeetHour
-    ensures { result ≡ feet_hour_of hour }
-{
-    match hour {
-        Hour::Taken(flow, content) => CabinetFeetHour {
-            taken: true,
-            has_flow: meter_series::is_recorded(flow),
-            has_content: meter_series::is_recorded(content),
-            flow: amount(flow),
-            content: amount(content),
-        },
-        Hour::Refused => CabinetFeetHour {
-            taken: false,
-            has_flow: false,
-            has_content: false,
-            flow: 0,
-            content: 0,
-        },
-    }
-}
-
-// The number recorded, 0 where there is none.
-fn amount(value: Value) -> u64
-    ensures { result ≡ amount value }
-{
-    match value {
-        Value::Recorded(number) => number,
-        Value::Missing => 0,
-    }
+    CabinetFeetHour::from(meter_feet::recorded(sample, state))
 }
 
 // One flow as whole litres.
@@ -267,7 +258,7 @@ fn amount(value: Value) -> u64
 pub extern "C" fn cabinet_litres(flow: f32) -> CabinetReading
     ensures { result ≡ reading_of (litres_of flow) }
 {
-    counted(meter_reading::litres(flow))
+    CabinetReading::from(meter_reading::litres(flow))
 }
 
 // One content as whole hundredths of a per cent.
@@ -275,17 +266,5 @@ pub extern "C" fn cabinet_litres(flow: f32) -> CabinetReading
 pub extern "C" fn cabinet_hundredths(content: f32) -> CabinetReading
     ensures { result ≡ reading_of (hundredths_of content) }
 {
-    counted(meter_reading::hundredths(content))
-}
-
-fn counted(measure: Measure) -> CabinetReading
-    ensures { result ≡ reading_of measure }
-{
-    match measure {
-        Measure::Whole(whole) => CabinetReading { taken: true, whole },
-        Measure::TurnedDown => CabinetReading {
-            taken: false,
-            whole: 0,
-        },
-    }
+    CabinetReading::from(meter_reading::hundredths(content))
 }

@@ -2,6 +2,7 @@
 -- factor, the B0 rule, net and the meter's hour. Each is computed. Assumes nothing.
 use mathlib.Core.Bool.{Bool, true, false, cond}
 use mathlib.Core.Path.{◌≡◌, refl}
+use Rattle.std.specs.Prelude.{Some}
 use Prim.Native.Nat.{ℕ, ◌*◌, ◌≤◌, ◌<◌}
 use lib.Dec.{eqb, leb, lit<, lit≤}
 use lib.IntN.{pos, neg_ℤ}
@@ -17,7 +18,6 @@ use Rattle.lagoon_month.specs.declared.Standing.{Standing}
 use Rattle.lagoon_month.specs.declared.Outcome.{Outcome}
 use Rattle.lagoon_month.specs.Month.{entered_of, empty_of, outcome_of}
 use Rattle.year_months.specs.Series.{year_at, over_year}
-use Rattle.meter_reading.specs.declared.Measure.TheVariants.{Whole}
 use Rattle.meter_reading.specs.Exact.{is_between, times_down, scaled_of, hundredths_of}
 use Rattle.meter_state.specs.State.{reading_of}
 use Rattle.laws.specs.Counting.{sum}
@@ -92,7 +92,7 @@ pub record Starred : Type 0 where
   pub minus_half : net_of (neg_ℤ (pos 500000)) ≡ neg_ℤ (pos 1)
   pub hour_destroyed : hour 10000 ≡ 40800
   pub hour_at_9800 : hour 9800 ≡ 39984
-  pub content_60_1 : hundredths_of (nearest 601 10) ≡ Whole 6009
+  pub content_60_1 : hundredths_of (nearest 601 10) ≡ Some 6009
   -- in cubic feet (02, (iii)): at 520 degrees and 1 atm, at 2.5 atm, and at 519.99 degrees, which in f32 are 51,998 hundredths
   pub feet_hour_destroyed : feet_hour (nearest 100 1) (nearest 520 1) (nearest 1 1) ≡ 1152
   pub feet_hour_at_2_5_atm : feet_hour (nearest 100 1) (nearest 520 1) (nearest 25 10) ≡ 2880
