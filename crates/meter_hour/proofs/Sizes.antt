@@ -14,26 +14,27 @@ use Rattle.units.specs.Grams.{share_of}
 use Rattle.meter_reading.specs.Exact.{litres_of, hundredths_of}
 use Rattle.meter_reading.proofs.Most.{scaled_within}
 use Rattle.meter_state.specs.State.{is_out, state_at, reading_at}
+use Rattle.meter_state.specs.declared.Reading.{Reading, TheVariants.Both, TheVariants.NoFlow, TheVariants.NoContent, TheVariants.Neither}
 use Rattle.meter_series.specs.Series.{amount, is_recorded}
 use Rattle.meter_hour.specs.declared.Recorded.{Recorded}
 use Rattle.meter_hour.specs.declared.Kind.{Kind}
 use Rattle.meter_hour.specs.declared.Kind.TheVariants.{CubicMetres, CubicFeet}
-use Rattle.meter_hour.specs.Hour.{counted, both, recorded_of, hour_at, flow_of, content_of, grams_in, hour_of, whole_efficiency}
+use Rattle.meter_hour.specs.Hour.{both, recorded_of, hour_at, flow_of, content_of, grams_in, hour_of, whole_efficiency}
 use Rattle.meter_hour.specs.Room.{most_flow, most_content}
 
 pub none_most : (k : ℕ) → amount None ≤ k
 none_most k = omega arith
 
+-- a value is small where the number is that it is counted as
 mapped_most : (count : Option ℕ) (k : ℕ) → ((n : ℕ) → count ≡ Some n → n ≤ k) → amount (option_flatten (option_map Some count)) ≤ k
 mapped_most (Some n) k h = h n refl
 mapped_most None k h = none_most k
 
--- a value is small where each number is that it is counted as
-pub counted_most :
-    (count : Float → Option ℕ) (k : ℕ) → ((x : Float) (n : ℕ) → count x ≡ Some n → n ≤ k) → (value : Option Float) →
-    amount (option_flatten (counted count value)) ≤ k
-counted_most count k h (Some x) = mapped_most (count x) k (h x)
-counted_most count k h None = none_most k
+litres_small : (flow : Float) → amount (option_flatten (option_map Some (litres_of flow))) ≤ 100000000
+litres_small flow = mapped_most (litres_of flow) 100000000 (λ n e. (scaled_within 1000 0 100000 flow n e).1)
+
+hundredths_small : (content : Float) → amount (option_flatten (option_map Some (hundredths_of content))) ≤ most_content
+hundredths_small content = mapped_most (hundredths_of content) most_content (λ n e. (scaled_within 100 0 100 content n e).1)
 
 pub flow_most : (flow content : Option (Option ℕ)) (k : ℕ) → amount (option_flatten flow) ≤ k → amount (flow_of (both flow content)) ≤ k
 flow_most (Some flow) (Some content) k h = h
@@ -51,22 +52,32 @@ pub either_most :
 either_most part none true hour k h = rw none (none_most k)
 either_most part none false hour k h = h
 
+flow_small : (reading : Reading) → amount (flow_of (recorded_of reading)) ≤ 100000000
+unfolding recorded_of
+flow_small (Both flow content) = flow_most (option_map Some (litres_of flow)) (option_map Some (hundredths_of content)) 100000000 (litres_small flow)
+flow_small (NoFlow content) = flow_most (Some None) (option_map Some (hundredths_of content)) 100000000 (none_most 100000000)
+flow_small (NoContent flow) = flow_most (option_map Some (litres_of flow)) (Some None) 100000000 (litres_small flow)
+flow_small Neither = none_most 100000000
+
+content_small : (reading : Reading) → amount (content_of (recorded_of reading)) ≤ most_content
+unfolding recorded_of
+content_small (Both flow content) = content_most (option_map Some (litres_of flow)) (option_map Some (hundredths_of content)) most_content (hundredths_small content)
+content_small (NoFlow content) = content_most (Some None) (option_map Some (hundredths_of content)) most_content (hundredths_small content)
+content_small (NoContent flow) = content_most (option_map Some (litres_of flow)) (Some None) most_content (none_most most_content)
+content_small Neither = none_most most_content
+
 module _ (flows contents : List Float) (states : List ℕ) where
   pub flows_small : (h : ℕ) → amount (flow_of (hour_at flows contents states h)) ≤ most_flow CubicMetres
-  unfolding hour_at recorded_of
+  unfolding hour_at
   flows_small h =
       let reading = reading_at flows contents states h in
-      either_most flow_of refl (ltb 7 (state_at states h)) (recorded_of reading) 100000000
-      (flow_most (counted litres_of reading.flow) (counted hundredths_of reading.content) 100000000
-      (counted_most litres_of 100000000 (λ x n e. (scaled_within 1000 0 100000 x n e).1) reading.flow))
+      either_most flow_of refl (ltb 7 (state_at states h)) (recorded_of reading) 100000000 (flow_small reading)
 
   pub contents_small : (h : ℕ) → amount (content_of (hour_at flows contents states h)) ≤ most_content
-  unfolding hour_at recorded_of
+  unfolding hour_at
   contents_small h =
       let reading = reading_at flows contents states h in
-      either_most content_of refl (ltb 7 (state_at states h)) (recorded_of reading) most_content
-      (content_most (counted litres_of reading.flow) (counted hundredths_of reading.content) most_content
-      (counted_most hundredths_of most_content (λ x n e. (scaled_within 100 0 100 x n e).1) reading.content))
+      either_most content_of refl (ltb 7 (state_at states h)) (recorded_of reading) most_content (content_small reading)
 
 -- what an hour can weigh
 abbrev pub most_grams : ℕ

@@ -5,14 +5,9 @@ use lib.{Dec.ltb, Ieee.Float}
 use Rattle.units.specs.Grams.{density, share_of}
 use Rattle.meter_reading.specs.Exact.{litres_of, hundredths_of}
 use Rattle.meter_state.specs.State.{is_out, state_at, reading_at}
-use Rattle.meter_state.specs.declared.Reading.{Reading}
+use Rattle.meter_state.specs.declared.Reading.{Reading, TheVariants.Both, TheVariants.NoFlow, TheVariants.NoContent, TheVariants.Neither}
 use Rattle.meter_series.specs.Series.{amount, is_recorded}
 use Rattle.meter_hour.specs.declared.{Recorded.Recorded, Kind.Kind, Kind.TheVariants.CubicMetres, Kind.TheVariants.CubicFeet}
-
--- a value that is present is counted; the outer None says that it is turned down, the inner one that it is not there
-abbrev pub counted : (Float → Option ℕ) → Option Float → Option (Option ℕ)
-counted count (Some value) = option_map Some (count value)
-counted count None = Some None
 
 -- a flow and a content, where neither was turned down; else their hour is refused
 abbrev pub both : Option (Option ℕ) → Option (Option ℕ) → Option Recorded
@@ -20,9 +15,13 @@ both (Some flow) (Some content) = Some (record { flow = flow; content = content 
 both (Some flow) None = None
 both None content = None
 
--- the flow in litres and the content in hundredths of a per cent, each where the reading has it
+-- the flow in litres and the content in hundredths of a per cent, each where the reading has it. Of each the outer None says that it is turned down, the
+-- inner one that it is not there.
 unfoldable pub recorded_of : Reading → Option Recorded
-recorded_of reading = both (counted litres_of reading.flow) (counted hundredths_of reading.content)
+recorded_of (Both flow content) = both (option_map Some (litres_of flow)) (option_map Some (hundredths_of content))
+recorded_of (NoFlow content) = both (Some None) (option_map Some (hundredths_of content))
+recorded_of (NoContent flow) = both (option_map Some (litres_of flow)) (Some None)
+recorded_of Neither = both (Some None) (Some None)
 
 -- hour h of a month, device out or not; a state above 7 has it refused too (01, "Refusal numbers", 11)
 unfoldable pub hour_at : List Float → List Float → List ℕ → ℕ → Option Recorded

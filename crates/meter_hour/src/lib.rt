@@ -41,13 +41,14 @@ pub fn recorded_at(flows: &[f32], contents: &[f32], states: &[u8], hour: usize) 
 fn counted(reading: Reading) -> Option<Recorded>
     ensures { result ≡ recorded_of reading }
 {
-    let flow = match reading.flow {
-        Some(flow) => Some(meter_reading::litres(flow)?),
-        None => None,
-    };
-    let content = match reading.content {
-        Some(content) => Some(meter_reading::hundredths(content)?),
-        None => None,
+    let (flow, content) = match reading {
+        Reading::Both(flow, content) => (
+            Some(meter_reading::litres(flow)?),
+            Some(meter_reading::hundredths(content)?),
+        ),
+        Reading::NoFlow(content) => (None, Some(meter_reading::hundredths(content)?)),
+        Reading::NoContent(flow) => (Some(meter_reading::litres(flow)?), None),
+        Reading::Neither => (None, None),
     };
     Some(Recorded { flow, content })
 }

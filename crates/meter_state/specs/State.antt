@@ -1,16 +1,16 @@
 -- An hour's reading, by its state (01, "The meter month").
-use Rattle.std.specs.Prelude.{ℕ, ◌/◌, ◌%◌, Some, None}
+use Rattle.std.specs.Prelude.{ℕ, ◌/◌, ◌%◌}
 use mathlib.Core.{Bool.Bool, Bool.cond, List.List}
 use lib.{Dec.eqb, Ieee.Float, Ieee.nan, ListN.get_or}
-use Rattle.meter_state.specs.declared.Reading.{Reading}
+use Rattle.meter_state.specs.declared.Reading.{Reading, TheVariants.Both, TheVariants.NoFlow, TheVariants.NoContent, TheVariants.Neither}
 
 -- state 0: both present; 1: no flow; 2: no content; 3: neither. The 4 that is added when the device was out changes nothing here, and a
 -- missing value's bits are ignored.
 unfoldable pub reading_of : ℕ → Float → Float → Reading
 reading_of state flow content =
-    cond (eqb (state % 4) 0) (record { flow = Some flow; content = Some content })
-    (cond (eqb (state % 4) 1) (record { flow = None; content = Some content })
-    (cond (eqb (state % 4) 2) (record { flow = Some flow; content = None }) (record { flow = None; content = None })))
+    cond (eqb (state % 4) 0) (Both flow content)
+    (cond (eqb (state % 4) 1) (NoFlow content)
+    (cond (eqb (state % 4) 2) (NoContent flow) Neither))
 
 -- a part, 1, 2, 4 or 8, was added to the state
 abbrev pub has : ℕ → ℕ → Bool

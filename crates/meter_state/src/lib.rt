@@ -4,11 +4,13 @@
 ghost use Rattle.std.specs.Prelude.{◌≡◌, ◌<◌, length};
 ghost use Rattle.meter_state.specs.State.{has, is_out, reading_at};
 
-// Flow and content, each where it is present.
+// Flow and content, one of them, or nothing: the form that the paper names for an hour's reading.
 #[derive(Clone, Copy)]
-pub struct Reading {
-    pub flow: Option<f32>,
-    pub content: Option<f32>,
+pub enum Reading {
+    Both(f32, f32),
+    NoFlow(f32),
+    NoContent(f32),
+    Neither,
 }
 
 // 4 is added to a state when the device was out. What is left says which values are there: 3 says neither.
@@ -35,16 +37,15 @@ pub fn has(state: u8, part: u8) -> bool
 }
 
 // The reading of an hour, from 0.
-#[tactic(auto, using(crate::proofs::States::before_end), unfolding(crate::specs::State::reading_of))]
+#[tactic(auto, using(crate::proofs::States::before_end), unfolding(crate::specs::State::reading_at, crate::specs::State::reading_of))]
 pub fn reading_at(flows: &[f32], contents: &[f32], states: &[u8], hour: usize) -> Reading
     requires { (hour < length flows.now) × (hour < length contents.now) × (hour < length states.now) }
     ensures { result ≡ reading_at flows.now contents.now states.now hour }
 {
-    let (flow, content) = match states[hour] % OUT {
-        BOTH => (Some(flows[hour]), Some(contents[hour])),
-        NO_FLOW => (None, Some(contents[hour])),
-        NO_CONTENT => (Some(flows[hour]), None),
-        _ => (None, None),
-    };
-    Reading { flow, content }
+    match states[hour] % OUT {
+        BOTH => Reading::Both(flows[hour], contents[hour]),
+        NO_FLOW => Reading::NoFlow(contents[hour]),
+        NO_CONTENT => Reading::NoContent(flows[hour]),
+        _ => Reading::Neither,
+    }
 }
