@@ -1,5 +1,5 @@
 -- The year's credit: what the operator entered, the lesser of modelled and metered, and the total (01, "The year"; Equations 5.1, 5.10).
-use Rattle.std.specs.Prelude.{ℕ, ◌+◌, ◌*◌, Option}
+use Rattle.std.specs.Prelude.{ℕ, ◌*◌, Option}
 use mathlib.Core.{Bool.cond, List.List}
 use lib.{IntN.ℤ, IntN.pos, IntN.◌+ℤ◌, IntN.◌-ℤ◌, Signed.le_z}
 use Rattle.laws.specs.Counting.{sum}
