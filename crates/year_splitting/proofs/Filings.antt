@@ -1,7 +1,7 @@
 -- A herd split on paper, by a year's net tonnes: two lines in one filing against one, and two filings against one. The other lines of the books, where there
 -- are any, come to the same; so do the operator's entries, together.
 -- Assumes nothing.
-use Prim.Native.Nat.{ℕ, zero, suc, ◌+◌, ◌*◌, ◌-◌, ◌/◌, ◌≤◌}
+use Prim.Native.Nat.{ℕ, zero, suc, ◌+◌, ◌-◌, ◌/◌, ◌≤◌}
 use mathlib.Core.List.{List}
 use mathlib.Core.Path.{◌≡◌, sym, subst}
 use native.Mathlib.Omega.{arith}
