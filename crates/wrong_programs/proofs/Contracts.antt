@@ -38,5 +38,5 @@ net_tells κ a x s told = told
 
 pub run_tells :
     Tells Run.Learnt
-    (λ κ a x s. x ≡ run_from a.0 (months_of a.1.0.now a.1.1.0.now a.1.1.1.0.now) (length a.1.0.now))
+    (λ κ a x s. x ≡ run_from a.0 (months_of a.1.0.now) (length a.1.0.now))
 run_tells κ a x s told = told

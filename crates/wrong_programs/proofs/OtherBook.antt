@@ -4,18 +4,17 @@ use mathlib.Core.List.{List}
 use mathlib.Core.Path.{◌≡◌, sym, ap, ◌∙◌}
 use native.Mathlib.Omega.{arith}
 use lib.ListN.{length, get_or}
+use Rattle.std.specs.Prelude.{Some}
 use Rattle.record_table.specs.Table.{entries_of}
 use Rattle.number_bytes.specs.Number.{number_at}
 use Rattle.record_table.specs.Slot.{slot_of}
 use Rattle.record_judge.specs.Defaults.{is_defaults}
 use Rattle.record_judge.specs.Record.{key_of, key_row, stored_of}
 use Rattle.record_judge.proofs.Keys.{key_slot}
-use Rattle.book.specs.Book.{record_at, answer_of, empty_book}
+use Rattle.book.specs.Book.{record_at, answer_of, empty_book, taken}
 use Rattle.book.specs.Valid.{Valid}
-use Rattle.book.specs.declared.Posted.TheVariants.{Taken}
 use Rattle.book.proofs.Kept.{empty_slot, empty_valid}
 use Rattle.book_slots.specs.Field.{place_of, bytes_of, seen_of}
-use Rattle.book_slots.specs.declared.Seen.TheVariants.{Value}
 use Rattle.book_theorems.proofs.Own.{taken_fills}
 use Rattle.book_theorems.proofs.Read.{read_stored}
 use Rattle.wrong_programs.proofs.Promise.{KeepsBooks}
@@ -32,7 +31,7 @@ leaves_empty after empties keeps =
     let letter : ◌≡◌ {A = ℕ} 89 0 = ap (λ (l : List ℕ). get_or l 0 0) held in
     omega arith
 
-module _ (after : List ℕ → List ℕ → List ℕ) (book r : List ℕ) (v : Valid book) (t : answer_of book r ≡ Taken) where
+module _ (after : List ℕ → List ℕ → List ℕ) (book r : List ℕ) (v : Valid book) (t : answer_of book r ≡ taken) where
   -- the slot of a record taken holds something else afterwards
   pub keeps_another : (record_at (after book r) (slot_of (key_row r) (key_of (key_row r) r)) ≡ stored_of r → ⊥) → KeepsBooks after → ⊥
   keeps_another other keeps =
@@ -42,6 +41,6 @@ module _ (after : List ℕ → List ℕ → List ℕ) (book r : List ℕ) (v : V
   -- a field of a record taken is read, under its key, as another value than was posted, or than a defaults line stands for
   pub keeps_other_values :
       (n : ℕ) → n < length (entries_of (key_row r)) →
-      (seen_of (after book r) (key_row r) (key_of (key_row r) r) n ≡ Value (number_at (stored_of r) (place_of (key_row r) n) (bytes_of (key_row r) n)) → ⊥) → KeepsBooks after → ⊥
+      (seen_of (after book r) (key_row r) (key_of (key_row r) r) n ≡ Some (number_at (stored_of r) (place_of (key_row r) n) (bytes_of (key_row r) n)) → ⊥) → KeepsBooks after → ⊥
   keeps_other_values n h other keeps =
       other (ap (λ (b : List ℕ). seen_of b (key_row r) (key_of (key_row r) r) n) (keeps book r v) ∙ read_stored book r v.size t n h)

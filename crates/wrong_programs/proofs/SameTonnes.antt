@@ -5,12 +5,12 @@ use mathlib.Core.List.{List}
 use mathlib.Core.Path.{◌≡◌, refl, sym, ap, ◌∙◌}
 use native.Mathlib.Omega.{arith}
 use lib.IntN.{ℤ, pos, neg_ℤ}
+use Rattle.std.specs.Prelude.{Result, Ok}
+use Rattle.refusals.specs.declared.Refusal.{Refusal}
 use Rattle.tonnes.specs.Tonnes.{net_of}
 use Rattle.book.specs.Valid.{Valid}
 use Rattle.year_months.specs.Series.{first_year}
 use Rattle.year.specs.Figures.{figures_of}
-use Rattle.year.specs.declared.Answer.{Answer}
-use Rattle.year.specs.declared.Answer.TheVariants.{Stated}
 use Rattle.year.specs.declared.Figures.{Figures}
 use Rattle.wrong_programs.proofs.Promise.{KeepsNet, KeepsYears, Answered}
 use Rattle.wrong_programs.proofs.Answers.{year_stated}
@@ -27,20 +27,20 @@ same_net net tonnes same keeps =
     omega arith
 
 -- every year that is stated gets the same tonnes
-abbrev pub Same : (List ℕ → ℕ → Answer) → ℤ → Type 0
-Same answer tonnes = (book : List ℕ) (year : ℕ) (figures : Figures) → Valid book → answer book year ≡ Stated figures → figures.net ≡ tonnes
+abbrev pub Same : (List ℕ → ℕ → Result Figures Refusal) → ℤ → Type 0
+Same answer tonnes = (book : List ℕ) (year : ℕ) (figures : Figures) → Valid book → answer book year ≡ Ok figures → figures.net ≡ tonnes
 
 -- two years that 01 gives no refusal, and whose tonnes differ, show it; and there are two: the first of 01's worked example has 498, and where device 1
 -- destroyed nothing it has -6
 pub same_as_another :
-    (answer : List ℕ → ℕ → Answer) (tonnes : ℤ) → Same answer tonnes → (a b : List ℕ) (y z : ℕ) → Answered a y → Answered b z →
+    (answer : List ℕ → ℕ → Result Figures Refusal) (tonnes : ℤ) → Same answer tonnes → (a b : List ℕ) (y z : ℕ) → Answered a y → Answered b z →
     ((figures_of a y).net ≡ (figures_of b z).net → ⊥) → KeepsYears answer → ⊥
 same_as_another answer tonnes same a b y z p q differ keeps =
     differ
     (same a y (figures_of a y) p.valid (keeps a y p.valid ∙ year_stated a y p)
     ∙ sym (same b z (figures_of b z) q.valid (keeps b z q.valid ∙ year_stated b z q)))
 
-pub same_years : (answer : List ℕ → ℕ → Answer) (tonnes : ℤ) → Same answer tonnes → KeepsYears answer → ⊥
+pub same_years : (answer : List ℕ → ℕ → Result Figures Refusal) (tonnes : ℤ) → Same answer tonnes → KeepsYears answer → ⊥
 same_years answer tonnes same =
     same_as_another answer tonnes same (made true) (made false) first_year first_year (answered true) (answered false)
     (λ e.

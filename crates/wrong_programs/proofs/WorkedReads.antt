@@ -3,11 +3,12 @@
 use Prim.Native.Nat.{ℕ, suc, ◌-◌, ◌≤◌, ◌<◌}
 use mathlib.Core.Bool.{Bool, true, false, cond, not}
 use mathlib.Core.List.{List, [], ◌∷◌}
-use mathlib.Core.Path.{◌≡◌, sym, ap, ◌∙◌, subst}
+use mathlib.Core.Path.{◌≡◌, refl, sym, ap, ◌∙◌, subst}
 use native.Mathlib.Omega.{arith}
-use borrow.Author.Tests.{le-ltb}
+use borrow.Author.Tests.{le-ltb, lt-ltb}
 use lib.Dec.{T, eqb, leb, ltb, lit≤, leb→le}
 use lib.IntN.{pos}
+use Rattle.std.specs.Prelude.{Option, Some, None, Ok}
 use Rattle.laws.specs.Counting.{sum}
 use Rattle.laws.proofs.Counting.{sum_same, begins, one_found, none_passes, first_past}
 use Rattle.laws.proofs.Table.{each, at}
@@ -20,14 +21,9 @@ use Rattle.book_slots.specs.Field.{number_of}
 use Rattle.book_slots.specs.Reads.{first_year_of, first_month_of, temperature_of, project_methane_of, baseline_co2_of, project_co2_of, destroyed_of}
 use Rattle.book_herd.specs.Herd.{system_of, category_of, line_of, head_of, drained_of}
 use Rattle.book_herd.specs.declared.Line.{Line}
-use Rattle.book_slots.specs.declared.Seen.{Seen}
-use Rattle.book_slots.specs.declared.Seen.TheVariants.{Nothing, Value}
-use Rattle.book_slots.specs.declared.Warmth.TheVariants.{Tenths, Unknown}
 use Rattle.book_theorems.proofs.Slotwise.{filled_held, number_held, seen_held}
-use Rattle.year_months.specs.Series.{first_year, filled}
+use Rattle.year_months.specs.Series.{first_year, filled, months_before}
 use Rattle.year_needs.specs.Complete.{any_line, unmeasured, uncounted, headless, lacks, lacking_of, complete_of}
-use Rattle.year_needs.specs.declared.Completeness.TheVariants.{Complete}
-use Rattle.year_needs.proofs.Lacking.{lacks_project, lacks_none}
 use Rattle.year_shares.specs.Shares.{whole_share, share_in, shares_of, over_of}
 use Rattle.wrong_programs.proofs.Records.{line_record, grams_of, meter_record}
 use Rattle.wrong_programs.proofs.WorkedBook.{Stands}
@@ -53,11 +49,11 @@ shares_most c low high =
     subst (λ (j : ℕ). sum lines (λ l. share_in j (cond (eqb l 1) the_line no_line)) ≤ whole_share) e (leb→le _ _ (at shares_fit categories all_fit (c - 1) (omega arith)))
 
 module _ (book : List ℕ) (destroyed : Bool) (s : Stands book destroyed) where
-  pub year_is : first_year_of book ≡ Value 2011
+  pub year_is : first_year_of book ≡ Some 2011
   unfolding number_at
   year_is = seen_held book (slot_of yr []) s.year 2 2 (lit≤ tt)
 
-  pub month_is : first_month_of book ≡ Value 1
+  pub month_is : first_month_of book ≡ Some 1
   unfolding number_at
   month_is = seen_held book (slot_of yr []) s.year 4 1 (lit≤ tt)
 
@@ -71,12 +67,12 @@ module _ (book : List ℕ) (destroyed : Bool) (s : Stands book destroyed) where
         let number = number_held book (slot_of ln (l ∷ [])) e in
         rw (number 3 1 (lit≤ tt), number 4 1 (lit≤ tt), number 6 2 (lit≤ tt), number 8 2 (lit≤ tt), number 10 2 (lit≤ tt), number 12 1 (lit≤ tt), number 14 2 (lit≤ tt))
 
-    pub system_by : (b : Bool) → record_at book (slot_of ln (l ∷ [])) ≡ cond b line_record nothing → system_of book l ≡ cond b (Value 0) Nothing
+    pub system_by : (b : Bool) → record_at book (slot_of ln (l ∷ [])) ≡ cond b line_record nothing → system_of book l ≡ cond b (Some 0) None
     unfolding number_at
     system_by true e = seen_held book (slot_of ln (l ∷ [])) e 3 1 (lit≤ tt)
     system_by false e = seen_held book (slot_of ln (l ∷ [])) e 3 1 (lit≤ tt)
 
-    category_by : (b : Bool) → record_at book (slot_of ln (l ∷ [])) ≡ cond b line_record nothing → category_of book l ≡ cond b (Value 1) Nothing
+    category_by : (b : Bool) → record_at book (slot_of ln (l ∷ [])) ≡ cond b line_record nothing → category_of book l ≡ cond b (Some 1) None
     unfolding number_at
     category_by true e = seen_held book (slot_of ln (l ∷ [])) e 4 1 (lit≤ tt)
     category_by false e = seen_held book (slot_of ln (l ∷ [])) e 4 1 (lit≤ tt)
@@ -85,40 +81,40 @@ module _ (book : List ℕ) (destroyed : Bool) (s : Stands book destroyed) where
   line_is = line_by 1 true (s.line 1 (lit≤ tt) (lit≤ tt))
 
   module _ (m : ℕ) (low : 1 ≤ m) (high : m ≤ months_in_year) where
-    pub head_is : head_of book 1 m ≡ Value 100
+    pub head_is : head_of book 1 m ≡ Some 100
     unfolding number_at
     head_is = seen_held book (slot_of hd (1 ∷ m ∷ [])) (s.head m low high) 4 4 (lit≤ tt)
 
-    pub temperature_is : temperature_of book m ≡ Tenths (pos 302)
+    pub temperature_is : temperature_of book m ≡ Some (pos 302)
     unfolding number_at signed_of
     temperature_is =
         let stands = s.temperature m low high in
-        ap (λ (b : Bool). cond b (Tenths (signed_of (number_of book tp (m ∷ []) 2))) Unknown) (filled_held book (slot_of tp (m ∷ [])) stands)
-        ∙ ap (λ (n : ℕ). Tenths (signed_of n)) (number_held book (slot_of tp (m ∷ [])) stands 4 2 (lit≤ tt))
+        ap (λ (b : Bool). cond b (Some (signed_of (number_of book tp (m ∷ []) 2))) None) (filled_held book (slot_of tp (m ∷ [])) stands)
+        ∙ ap (λ (n : ℕ). Some (signed_of n)) (number_held book (slot_of tp (m ∷ [])) stands 4 2 (lit≤ tt))
 
     pub drained_is : drained_of book 1 m ≡ false
     drained_is = filled_held book (slot_of dr (1 ∷ m ∷ [])) (s.drain m low high)
 
-    pub project_is : (project_methane_of book m ≡ Value 1000) × (baseline_co2_of book m ≡ Value 0) × (project_co2_of book m ≡ Value 500)
+    pub project_is : (project_methane_of book m ≡ Some 1000) × (baseline_co2_of book m ≡ Some 0) × (project_co2_of book m ≡ Some 500)
     unfolding number_at
     project_is =
         let seen = seen_held book (slot_of pe (m ∷ [])) (s.project m low high) in
         (seen 4 4 (lit≤ tt), seen 8 4 (lit≤ tt), seen 12 4 (lit≤ tt))
 
-    grams_by_lem : (b : Bool) → record_at book (slot_of mt (m ∷ 1 ∷ [])) ≡ meter_record b m → destroyed_of book m 1 ≡ Value (grams_of b)
+    grams_by_lem : (b : Bool) → record_at book (slot_of mt (m ∷ 1 ∷ [])) ≡ meter_record b m → destroyed_of book m 1 ≡ Some (grams_of b)
     unfolding number_at
     grams_by_lem true e = seen_held book (slot_of mt (m ∷ 1 ∷ [])) e 4 8 (lit≤ tt)
     grams_by_lem false e = seen_held book (slot_of mt (m ∷ 1 ∷ [])) e 4 8 (lit≤ tt)
 
-    pub first_is : destroyed_of book m 1 ≡ Value (grams_of destroyed)
+    pub first_is : destroyed_of book m 1 ≡ Some (grams_of destroyed)
     first_is = grams_by_lem destroyed (s.first_device m low high)
 
-    pub none_is : (d : ℕ) → record_at book (slot_of mt (m ∷ d ∷ [])) ≡ nothing → destroyed_of book m d ≡ Nothing
+    pub none_is : (d : ℕ) → record_at book (slot_of mt (m ∷ d ∷ [])) ≡ nothing → destroyed_of book m d ≡ None
     none_is d e = seen_held book (slot_of mt (m ∷ d ∷ [])) e 4 8 (lit≤ tt)
 
     -- month m lacks nothing
-    counted_by : (l : ℕ) (b : Bool) → category_of book l ≡ cond b (Value 1) Nothing → uncounted book m (category_of book l) ≡ false
-    counted_by l true e = ap (uncounted book m) e ∙ ap (λ (h : Seen). not (filled h)) head_is
+    counted_by : (l : ℕ) (b : Bool) → category_of book l ≡ cond b (Some 1) None → uncounted book m (category_of book l) ≡ false
+    counted_by l true e = ap (uncounted book m) e ∙ ap (λ (h : Option ℕ). not (filled h)) head_is
     counted_by l false e = ap (uncounted book m) e
 
     pub counted : headless book m ≡ false
@@ -128,7 +124,8 @@ module _ (book : List ℕ) (destroyed : Bool) (s : Stands book destroyed) where
         (λ l from to. counted_by l (eqb l 1) (category_by l (eqb l 1) (s.line l from to)))
 
     lacks_nothing : lacks book first_year m ≡ false
-    lacks_nothing = sym (lacks_project book first_year m (ap unmeasured temperature_is) counted (omega arith) (sym (ap filled project_is.0)))
+    unfolding lacks
+    lacks_nothing = rw (ap unmeasured temperature_is, counted, lt-ltb (months_before first_year) m (omega arith), ap filled project_is.0) refl
 
   pub lined : any_line book ≡ true
   unfolding any_line
@@ -136,11 +133,11 @@ module _ (book : List ℕ) (destroyed : Bool) (s : Stands book destroyed) where
       let test : ℕ → Bool = λ l. filled (category_of book l) in
       sym (one_found lines 1 test (begins lines test) (lit≤ tt) (ap filled (category_by 1 true (s.line 1 (lit≤ tt) (lit≤ tt)))))
 
-  pub complete_is : complete_of book first_year ≡ Complete
-  unfolding lacking_of
+  pub complete_is : complete_of book first_year ≡ Ok tt
+  unfolding lacking_of complete_of
   complete_is =
       let past = first_past 1 months_in_year (lacks book first_year) (λ m low high. lacks_nothing m low (omega arith)) in
-      sym (lacks_none book first_year (ap filled year_is) lined (sym past) (omega arith))
+      rw (ap filled year_is, lined, past) refl
 
   shares_fit_lem : (c : ℕ) → 1 ≤ c → c ≤ categories → ltb whole_share (shares_of book c) ≡ false
   unfolding shares_of

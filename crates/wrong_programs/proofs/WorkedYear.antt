@@ -8,6 +8,7 @@ use native.Mathlib.Omega.{arith}
 use borrow.Author.Tests.{eqb-true}
 use lib.Dec.{eqb, lit≤}
 use lib.IntN.{pos, neg_ℤ}
+use Rattle.std.specs.Prelude.{ℤ, Option}
 use Rattle.laws.specs.Counting.{sum}
 use Rattle.laws.proofs.Counting.{Each, sum_same}
 use Rattle.units.specs.Grams.{solids, methane, co2e, b0_rule_of}
@@ -25,8 +26,6 @@ use Rattle.book.specs.Book.{record_at, nothing as no_record}
 use Rattle.book_slots.specs.Reads.{first_month_of, project_methane_of, baseline_co2_of, project_co2_of}
 use Rattle.book_herd.specs.Herd.{line_of, drained_of}
 use Rattle.book_herd.specs.declared.Line.{Line}
-use Rattle.book_slots.specs.declared.Seen.{Seen}
-use Rattle.book_slots.specs.declared.Warmth.{Warmth}
 use Rattle.year_months.specs.Series.{first_year, amount_of, months_before, year_at, over_year, days_at, factor_by, factor_at}
 use Rattle.year_credit.specs.Credit.{grams_of, destroyed_at, operator_of, total_of}
 use Rattle.year_credit.specs.declared.Operator.{Operator}
@@ -91,8 +90,8 @@ module _ (book : List ℕ) (destroyed : Bool) (s : Stands book destroyed) where
   days_are : (m : ℕ) → days_at book m ≡ days_of 2011 1 m
   unfolding days_at
   days_are m =
-      ap (λ (y : Seen). days_of (amount_of y) (amount_of (first_month_of book)) m) (year_is book destroyed s)
-      ∙ ap (λ (y : Seen). days_of 2011 (amount_of y) m) (month_is book destroyed s)
+      ap (λ (y : Option ℕ). days_of (amount_of y) (amount_of (first_month_of book)) m) (year_is book destroyed s)
+      ∙ ap (λ (y : Option ℕ). days_of 2011 (amount_of y) m) (month_is book destroyed s)
 
   heads_are : heads_of book first_year the_line.category ≡ monthly 100
   unfolding heads_of head_at
@@ -112,7 +111,7 @@ module _ (book : List ℕ) (destroyed : Bool) (s : Stands book destroyed) where
     unfolding month_at factor_at
     months_are =
         ap (λ (e : Solids). month e (factor_at book m) (drained_of book 1 m)) entered_is
-        ∙ ap (λ (t : Warmth). month (the_month m).entered (factor_by t) (drained_of book 1 m)) (temperature_is book destroyed s m low high)
+        ∙ ap (λ (t : Option ℤ). month (the_month m).entered (factor_by t) (drained_of book 1 m)) (temperature_is book destroyed s m low high)
         ∙ ap (month (the_month m).entered (factor_of (pos 302))) (drained_is book destroyed s m low high)
 
     destroyed_is : destroyed_at book m ≡ methane (Records.grams_of destroyed)
@@ -128,7 +127,7 @@ module _ (book : List ℕ) (destroyed : Bool) (s : Stands book destroyed) where
   first_line : line_in book first_year 1 ≡ the_sums
   unfolding line_in
   first_line =
-      ap (λ (x : Seen). by_system x (anaerobic_of (year_of (month_at book 1) first_year) (line_of book 1).b0) (other_of (heads_of book first_year (line_of book 1).category) (line_of book 1)))
+      ap (λ (x : Option ℕ). by_system x (anaerobic_of (year_of (month_at book 1) first_year) (line_of book 1).b0) (other_of (heads_of book first_year (line_of book 1).category) (line_of book 1)))
       (system_by book destroyed s 1 true (s.line 1 (lit≤ tt) (lit≤ tt)))
       ∙ ap (λ (x : Line). anaerobic_of (year_of (month_at book 1) first_year) x.b0) (line_is book destroyed s)
       ∙ ap (λ (t : Totals). anaerobic_of t the_line.b0) (same_year (month_at book 1) the_month first_year (lit≤ tt) months_are)
@@ -138,7 +137,7 @@ module _ (book : List ℕ) (destroyed : Bool) (s : Stands book destroyed) where
   unfolding line_in
   line_in_lem l true e stands = ap (line_in book first_year) (eqb-true l 1 e) ∙ first_line
   line_in_lem l false e stands =
-      ap (λ (x : Seen). by_system x (anaerobic_of (year_of (month_at book l) first_year) (line_of book l).b0) (other_of (heads_of book first_year (line_of book l).category) (line_of book l)))
+      ap (λ (x : Option ℕ). by_system x (anaerobic_of (year_of (month_at book l) first_year) (line_of book l).b0) (other_of (heads_of book first_year (line_of book l).category) (line_of book l)))
       (system_by book destroyed s l false stands)
 
   sums_are : sums_of book first_year all ≡ the_sums
@@ -148,9 +147,9 @@ module _ (book : List ℕ) (destroyed : Bool) (s : Stands book destroyed) where
   operators_are =
       let project = project_is book destroyed s in
       same_operator
-      (over_year_lem (λ m. (grams_of (project_methane_of book m)).0) 1000000 (λ m low high. ap (λ (x : Seen). (grams_of x).0) (project m low high).0))
-      (over_year_lem (λ m. (grams_of (baseline_co2_of book m)).0) 0 (λ m low high. ap (λ (x : Seen). (grams_of x).0) (project m low high).1))
-      (over_year_lem (λ m. (grams_of (project_co2_of book m)).0) 500000 (λ m low high. ap (λ (x : Seen). (grams_of x).0) (project m low high).2))
+      (over_year_lem (λ m. (grams_of (project_methane_of book m)).0) 1000000 (λ m low high. ap (λ (x : Option ℕ). (grams_of x).0) (project m low high).0))
+      (over_year_lem (λ m. (grams_of (baseline_co2_of book m)).0) 0 (λ m low high. ap (λ (x : Option ℕ). (grams_of x).0) (project m low high).1))
+      (over_year_lem (λ m. (grams_of (project_co2_of book m)).0) 500000 (λ m low high. ap (λ (x : Option ℕ). (grams_of x).0) (project m low high).2))
       (over_year_lem (λ m. (destroyed_at book m).0) (Records.grams_of destroyed) (λ m low high. ap (λ (x : Methane). x.0) (destroyed_is m low high)))
 
   figures_are : figures_of book first_year ≡ figures_by the_sums (the_operator destroyed)
