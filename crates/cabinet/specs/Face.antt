@@ -1,6 +1,6 @@
 -- What a C caller is handed for each answer: 01's number and place beside the figures. Number 0 says that nothing was refused; a refusal
 -- gives number and place, and no figures (01, "Refusal numbers").
-use Rattle.std.specs.Prelude.{ℕ, Option, Result}
+use Rattle.std.specs.Prelude.{ℕ, Option, Some, None, Result, Ok, Err}
 use mathlib.Core.{Bool.Bool, Bool.true, Bool.false, Bool.cond, List.List}
 use lib.{Dec.eqb, IntN.pos, ListN.length}
 use Rattle.book.specs.Book.{book_bytes, empty_book}

@@ -21,7 +21,6 @@ use Rattle.year_months.specs.Series.{year_at, over_year}
 use Rattle.meter_reading.specs.Exact.{is_between, times_down, scaled_of, hundredths_of}
 use Rattle.meter_state.specs.State.{reading_of}
 use Rattle.laws.specs.Counting.{sum}
-use Rattle.meter_series.specs.Series.{amount}
 use Rattle.meter_gaps.specs.Filling.{filled}
 use Rattle.meter_hour.specs.Hour.{recorded_of, hour_at, grams_in, hour_of}
 use Rattle.meter_hour.specs.declared.Kind.TheVariants.{CubicMetres, CubicFeet}
@@ -132,7 +131,7 @@ unfolding entered_of days_of gone_of length_of lengths_of february_of leap_of su
 spread = record { in_january_2011 = refl; in_january_2012 = refl }
 
 pub starred : Starred
-unfolding entered_of outcome_of days_of gone_of length_of lengths_of february_of leap_of factor_of ruled_of summed_of denominator added subtracted b0_rule_of metered_of destroyed_of grams_of sum hour_of grams_in amount hour_at recorded_of reading_of feet_hour_at Feet.recorded_of flow_in content_in corrected_of filled scaled_of is_between times_down round
+unfolding entered_of outcome_of days_of gone_of length_of lengths_of february_of leap_of factor_of ruled_of summed_of denominator added subtracted b0_rule_of metered_of destroyed_of grams_of sum hour_of grams_in hour_at recorded_of reading_of feet_hour_at Feet.recorded_of flow_in content_in corrected_of filled scaled_of is_between times_down round
 starred =
     record {
       enters_31_days = refl;

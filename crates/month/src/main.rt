@@ -9,80 +9,58 @@ ghost use Rattle.program_input.specs.Got.{Room};
 ghost use Rattle.meter_bytes.specs.Format.{longest_bytes};
 ghost use Rattle.month.specs.Input.{Comes};
 
-use meter_month::MonthAnswer;
-use program_input::{Got, Heard};
+use program_input::Failure;
+use refusals::Refusal;
 use std::io;
 use std::io::Read;
 use std::process::ExitCode;
+use units::Methane;
 
 mod text;
 
 // One byte more than the longest month has, so that a longer input shows.
 const BUFFER: usize = meter_bytes::LONGEST + 1;
 
-// The answer for the month that standard input holds, or that a read failed.
-#[derive(Clone, Copy)]
-enum Outcome {
-    Stated(MonthAnswer),
-    Failed,
-}
-
 // Where a read or a write fails, one line on standard error says which and why, and the status is 1.
 fn main(rt: HostRuntime) -> ExitCode {
-    let mut buffer = [0u8; BUFFER];
-    let mut input = Heard {
-        reader: rt.reader(),
-        failure: None,
-    };
-    let outcome = state_input(&mut input, &mut buffer);
-    let (what, ended) = match outcome {
-        Outcome::Stated(answer) => ("standard output", print(&rt, answer)),
-        Outcome::Failed => (
-            "standard input",
-            Err(input.failure.unwrap_or(io::Error::other("a read failed"))),
-        ),
-    };
-    match ended {
+    match run(&rt) {
         Ok(()) => ExitCode::SUCCESS,
-        Err(error) => {
-            let _ = eprintln!(rt; "{what}: {error}");
+        Err(failure) => {
+            let _ = eprintln!(rt; "{failure}");
             ExitCode::FAILURE
         }
     }
 }
 
-// The month that a reader gives, stated or refused.
-fn state_input<R: Read>(reader: &mut R, buffer: &mut [u8]) -> Outcome
+fn run(rt: &HostRuntime) -> Result<(), Failure> {
+    let mut buffer = [0u8; BUFFER];
+    let mut page = [0u8; text::TEXT_BYTES];
+    let mut input = rt.reader();
+    let answer = state_input(&mut input, &mut buffer).map_err(Failure::Input)?;
+    let end = text::lay_answer(answer, &mut page);
+    rt.write_all(&page[..end]).map_err(Failure::Output)
+}
+
+// The answer for the month that a reader gives; a read that fails is none.
+fn state_input<R: Read>(reader: &mut R, buffer: &mut [u8]) -> io::Result<Result<Methane, Refusal>>
     requires { longest_bytes < length buffer.old }
     ensures { Comes (length buffer.old) result }
 {
-    let got = read_input(reader, buffer);
-    match got {
-        Got::Bytes(count) => Outcome::Stated(meter_bytes::stated(&buffer[..count])),
-        Got::Failed => Outcome::Failed,
-    }
+    let count = read_input(reader, buffer)?;
+    Ok(meter_bytes::stated(&buffer[..count]))
 }
 
-// How many bytes were read up to the input's end or the buffer's, or that a read failed.
-fn read_input<R: Read>(reader: &mut R, buffer: &mut [u8]) -> Got
+// How many bytes were read up to the input's end or the buffer's.
+fn read_input<R: Read>(reader: &mut R, buffer: &mut [u8]) -> io::Result<usize>
     ensures { Room result (length buffer.new) }
 {
     let mut held: usize = 0;
     while held < buffer.len() {
-        let more = program_input::read_more(reader, buffer, held);
-        let Got::Bytes(count) = more else {
-            return Got::Failed;
-        };
+        let count = program_input::read_more(reader, buffer, held)?;
         if count == 0 {
-            return Got::Bytes(held);
+            return Ok(held);
         }
         held += count;
     }
-    Got::Bytes(held)
-}
-
-fn print(rt: &impl Print, answer: MonthAnswer) -> io::Result<()> {
-    let mut page = [0u8; text::TEXT_BYTES];
-    let end = text::lay_answer(answer, &mut page);
-    rt.write_all(&page[..end])
+    Ok(held)
 }

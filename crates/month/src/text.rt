@@ -3,18 +3,19 @@ ghost use Rattle.std.specs.Prelude.{◌≤◌, length};
 ghost use Rattle.print_page.specs.Page.{Lays};
 ghost use Rattle.month.specs.Text.{destroyed_text, answer_text, text_bytes};
 
-use meter_month::MonthAnswer;
+use refusals::Refusal;
+use units::Methane;
 
-pub const TEXT_BYTES: usize = 36;
+pub const TEXT_BYTES: usize = 35;
 
 // Lays the text at the start of a page, and returns its length.
-pub fn lay_answer(answer: MonthAnswer, page: &mut [u8]) -> usize
+pub fn lay_answer(answer: Result<Methane, Refusal>, page: &mut [u8]) -> usize
     requires { text_bytes ≤ length page.old }
     ensures { Lays page.old 0 (answer_text answer) result page.new }
 {
     match answer {
-        MonthAnswer::Destroyed(methane) => lay_destroyed(methane.grams(), page),
-        MonthAnswer::Refused(refusal) => print_refusal::lay_refusal(page, 0, refusal),
+        Ok(methane) => lay_destroyed(methane.grams(), page),
+        Err(refusal) => print_refusal::lay_refusal(page, 0, refusal),
     }
 }
 

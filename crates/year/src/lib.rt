@@ -42,7 +42,11 @@ pub fn year(book: &[u8], year: u64) -> Result<Figures, Refusal>
         return Err(Reason::NoSuchYear.at(0));
     }
     let counted = year as usize;
-    year_needs::complete(book, counted)?;
+    // The paper names this form for a year without its records: its refusal leaves before any sum is taken.
+    let found = year_needs::complete(book, counted);
+    let Ok(()) = found else {
+        return Err(found.unwrap_err());
+    };
     year_shares::fit(book)?;
     Ok(figures_of(book, counted))
 }

@@ -7,7 +7,6 @@ use Rattle.month.proofs.text.lay_answer.Goals as goal
 
 pub lay_refusal-requires : goal.lay_refusal-requires
 lay_refusal-requires c =
-    let refusal = c.in-Refused.refusal in
-    let number : refusal.number < 2 ^ 8 = search rules in
+    let refusal = c.in-Err.refusal in
     let place : refusal.place < 2 ^ 64 = search rules in
-    omega (arith, refusal_most refusal number place)
+    omega (arith, refusal_most refusal place)
