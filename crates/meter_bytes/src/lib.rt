@@ -165,7 +165,8 @@ fn fit_a_month(one: usize, other: usize) -> bool
 // The month of an input with these counts; what follows its floats are the states.
 fn lent(kind: Kind, input: &[u8], counts: Counts) -> Result<Methane, Refusal>
     requires states_within { value_at kind (counts.flows + counts.contents + counts.temperatures + counts.pressures) ≤ length input.now }
-    requires fit_a_month { (counts.flows ≤ most_hours) × (counts.contents ≤ most_hours) × (counts.temperatures ≤ most_hours) × (counts.pressures ≤ most_hours) }
+    requires fit_a_month { (counts.flows ≤ most_hours) × (counts.contents ≤ most_hours)
+        × (counts.temperatures ≤ most_hours) × (counts.pressures ≤ most_hours) }
     ensures { result ≡ lent_of kind input.now counts.flows counts.contents counts.temperatures
         counts.pressures }
 {

@@ -166,7 +166,8 @@ impl Series<'_> {
 
 // Grams destroyed in a month, by what each hour recorded: the gaps are filled, and the hours summed.
 fn destroyed(kind: Kind, efficiency: u32, states: &[u8], recorded: &Series) -> Methane
-    requires as_long { AsLong (length recorded.now.flows.now) (length recorded.now.contents.now) (length states.now) × (efficiency ≤ whole_efficiency) }
+    requires as_long { AsLong (length recorded.now.flows.now) (length recorded.now.contents.now) (length states.now)
+        × (efficiency ≤ whole_efficiency) }
     requires at_most { AtMost (most_flow kind) recorded.now.flows.now × AtMost most_content recorded.now.contents.now }
     ensures { result ≡ methane (destroyed_of kind efficiency (state_at states.now)
         (series recorded.now.flows.now) (series recorded.now.contents.now) (length states.now)) }
