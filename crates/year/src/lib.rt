@@ -58,22 +58,15 @@ fn figures_of(book: &[u8], year: usize) -> Figures
 {
     let sums = year_lines::sums_of(book, year);
     let operator = year_credit::operator_of(book, year);
-    let entered = sums.entered;
-    let degraded = sums.degraded;
-    let removed = sums.removed;
-    let carried = sums.carried;
-    let baseline = sums.baseline;
-    let project_methane = operator.project_methane;
-    let metered = operator.metered();
-    let net = tonnes::net(year_credit::total(baseline, operator));
+    let net = tonnes::net(year_credit::total(sums.baseline, operator));
     Figures {
-        entered,
-        degraded,
-        removed,
-        carried,
-        baseline,
-        project_methane,
-        metered,
+        entered: sums.entered,
+        degraded: sums.degraded,
+        removed: sums.removed,
+        carried: sums.carried,
+        baseline: sums.baseline,
+        project_methane: operator.project_methane,
+        metered: operator.metered(),
         net,
         credited: tonnes::credited(net),
     }
