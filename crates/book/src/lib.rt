@@ -2,7 +2,6 @@
 #![tactic(auto)]
 
 ghost use Rattle.std.specs.Prelude.{◌≡◌, ◌<◌, Ok, length};
-ghost use Rattle.record_table.specs.Table.{record_bytes};
 ghost use Rattle.record_table.specs.Slot.{slots};
 ghost use Rattle.record_judge.specs.Record.{judged};
 ghost use Rattle.record_judge.specs.declared.Change.TheVariants.{Put};
@@ -48,31 +47,31 @@ fn put(book: &mut [u8], slot: usize, posted: &[u8]) -> Result<(), Refusal>
     ensures value { result ≡ answer_by book.old (Ok (Put slot)) }
     ensures after { book.new ≡ book_by book.old posted.now (Ok (Put slot)) }
 {
-    if record_judge::is_defaults(posted) {
-        return fill(book, slot, &record_defaults::line(posted));
+    // Nothing but sixteen bytes is judged to be put.
+    let record = posted.as_array().unwrap();
+    if record_judge::is_defaults(record) {
+        return fill(book, slot, &record_defaults::line(record));
     }
-    fill(book, slot, posted)
+    fill(book, slot, record)
 }
 
-// Fills a slot, where it is not filled. From an array of the function's own, sixteen bytes are moved as one.
+// Fills a slot, where it is not filled.
 #[tactic(auto, unfolding(crate::specs::Book::free, crate::specs::Book::answer_by))]
-fn fill(book: &mut [u8], slot: usize, content: &[u8]) -> Result<(), Refusal>
-    requires { (length book.old ≡ book_bytes) × (slot < slots) × (length content.now ≡ record_bytes) }
+fn fill(book: &mut [u8], slot: usize, content: &[u8; RECORD]) -> Result<(), Refusal>
+    requires { (length book.old ≡ book_bytes) × (slot < slots) }
     ensures value { result ≡ answer_by book.old (Ok (Put slot)) }
     ensures after { book.new ≡ book_filled book.old slot content.now }
 {
     if book[slot * RECORD] != 0 {
         return Err(Reason::AlreadyFilled.at(0));
     }
-    let mut record = [0u8; RECORD];
-    record.copy_from_slice(content);
-    write(book, slot, &record);
+    write(book, slot, content);
     Ok(())
 }
 
 #[tactic(auto, using(crate::proofs::Slot::written))]
-fn write(book: &mut [u8], slot: usize, content: &[u8])
-    requires { (length book.old ≡ book_bytes) × (slot < slots) × (length content.now ≡ record_bytes) }
+fn write(book: &mut [u8], slot: usize, content: &[u8; RECORD])
+    requires { (length book.old ≡ book_bytes) × (slot < slots) }
     ensures { book.new ≡ book_with book.old slot content.now }
 {
     let at = slot * RECORD;

@@ -3,10 +3,11 @@
 
 pub mod tables;
 
-ghost use Rattle.std.specs.Prelude.{◌≡◌, ◌≤◌, ◌<◌, ◌/◌, ◌%◌, length};
-ghost use Rattle.record_table.specs.Table.{record_bytes};
+ghost use Rattle.std.specs.Prelude.{◌≡◌, ◌≤◌, ◌<◌};
 ghost use Rattle.record_defaults.specs.Tables.{Livestock, State, state_count, columns, mass_of, b0_of, solids_entry, by_state, asks_state, solids_of};
 ghost use Rattle.record_defaults.specs.StandsFor.{Named, stands_for};
+
+use record_table::RECORD;
 
 // What Table A.3 has of a livestock's solids: a value of its own, in hundredths of a kilogram a day for 1,000 kg of animal, or a column of Table A.5.
 #[derive(Clone, Copy)]
@@ -36,13 +37,13 @@ pub const SHARE_AT: usize = 8;
 pub const CONVERSION_FACTOR_AT: usize = 10;
 
 // The LN that a defaults line stands for: what it says itself, and the tables' values for its livestock.
-pub fn line(posted: &[u8]) -> [u8; record_table::RECORD]
-    requires { (length posted.now ≡ record_bytes) × Named posted.now }
+pub fn line(posted: &[u8; RECORD]) -> [u8; RECORD]
+    requires { Named posted.now }
     ensures { result ≡ stands_for posted.now }
 {
     let livestock = posted[LIVESTOCK_AT];
-    let solids = table_solids(livestock, posted[STATE_AT]);
-    let mass = mass(livestock);
+    let solids = table_solids(livestock, posted[STATE_AT]).to_le_bytes();
+    let mass = mass(livestock).to_le_bytes();
     [
         b'L',
         b'N',
@@ -50,10 +51,10 @@ pub fn line(posted: &[u8]) -> [u8; record_table::RECORD]
         posted[SYSTEM_AT],
         posted[CATEGORY_AT],
         0,
-        low_byte(solids),
-        high_byte(solids),
-        low_byte(mass),
-        high_byte(mass),
+        solids[0],
+        solids[1],
+        mass[0],
+        mass[1],
         posted[SHARE_AT],
         posted[SHARE_AT + 1],
         b0(livestock),
@@ -61,18 +62,6 @@ pub fn line(posted: &[u8]) -> [u8; record_table::RECORD]
         posted[CONVERSION_FACTOR_AT],
         posted[CONVERSION_FACTOR_AT + 1],
     ]
-}
-
-fn low_byte(number: u16) -> u8
-    ensures { result ≡ number % 256 }
-{
-    (number % 256) as u8
-}
-
-fn high_byte(number: u16) -> u8
-    ensures { result ≡ number / 256 }
-{
-    (number / 256) as u8
 }
 
 // The mass of a livestock, in tenths of a kilogram.

@@ -7,6 +7,7 @@ use Prim.Native.Nat.{ℕ, ◌≤◌, ◌<◌}
 use borrow.Author.Tests.{eq-eqb, ne_eqb, lt-ltb, le-ltb}
 use lib.Dec.{eqb, ltb}
 use lib.ListN.{length}
+use Rattle.std.specs.Array.{IsWholeChunk}
 use Rattle.record_table.specs.Table.{table, ln, record_bytes, after_mark}
 use Rattle.std.specs.Prelude.{Result, Err}
 use Rattle.refusals.specs.Refusal.{refusal}
@@ -50,15 +51,23 @@ module _ (r : List ℕ) (long : length r ≡ record_bytes) where
     found : eqb letters defaults_letters ≡ false → row_in letters table < length table → judged r ≡ judged_as (row_in letters table) r
     found e h = in_row e ∙ simp (lt-ltb _ _ h)
 
-    pub no_row : eqb letters defaults_letters ≡ false → length table ≤ row_in letters table → judged r ≡ Err (refusal UnknownMark 0)
+    no_row : eqb letters defaults_letters ≡ false → length table ≤ row_in letters table → judged r ≡ Err (refusal UnknownMark 0)
     no_row e h = in_row e ∙ simp (le-ltb _ _ h)
 
-  -- by the letters of a mark, and what its row finds
-  pub by_row_lem :
-      (mark : ℕ) {letters : ℕ} {found_is : Result Change Refusal} → letters ≡ mark → letters ≡ number_at r 0 after_mark → eqb mark defaults_letters ≡ false →
-      row_in mark table < length table → found_is ≡ judged_as (row_in mark table) r → found_is ≡ judged r
-  by_row_lem mark is its other h e = e ∙ sym (found mark (sym is ∙ its) other h)
+-- of sixteen bytes taken as one record: by the letters of a mark, and what its row finds
+module _ (r s : List ℕ) (whole : IsWholeChunk r s record_bytes) where
+  long : length s ≡ record_bytes
+  long = ap length whole.same ∙ whole.long
 
-  -- and by the letters of LD
-  pub by_defaults : {letters : ℕ} {found_is : Result Change Refusal} → letters ≡ defaults_letters → letters ≡ number_at r 0 after_mark → found_is ≡ judged_by (defaults_entries r) ln r → found_is ≡ judged r
-  by_defaults is its e = e ∙ sym (as_defaults (lettered r its true (eq-eqb _ _ is)))
+  pub by_mark :
+      (mark : ℕ) {letters : ℕ} {found_is : Result Change Refusal} → letters ≡ mark → letters ≡ number_at s 0 after_mark → eqb mark defaults_letters ≡ false →
+      row_in mark table < length table → found_is ≡ judged_as (row_in mark table) s → found_is ≡ judged r
+  by_mark mark is its other h e = e ∙ sym (found s long mark (sym is ∙ its) other h) ∙ ap judged whole.same
+
+  -- by the letters of LD
+  pub by_defaults : {letters : ℕ} {found_is : Result Change Refusal} → letters ≡ defaults_letters → letters ≡ number_at s 0 after_mark → found_is ≡ judged_by (defaults_entries s) ln s → found_is ≡ judged r
+  by_defaults is its e = e ∙ sym (as_defaults s long (lettered s its true (eq-eqb _ _ is))) ∙ ap judged whole.same
+
+  -- and by letters that no row has
+  pub by_none : (letters : ℕ) → letters ≡ number_at s 0 after_mark → eqb letters defaults_letters ≡ false → length table ≤ row_in letters table → Err (refusal UnknownMark 0) ≡ judged r
+  by_none letters its other h = sym (no_row s long letters its other h) ∙ ap judged whole.same

@@ -3,7 +3,7 @@
 
 pub mod rows;
 
-ghost use Rattle.std.specs.Prelude.{◌≡◌, cond, ◌&&◌, ◌+◌, ◌^◌, ◌≤◌, ◌<◌, eqb, leb, pos, neg_ℤ, length, drop, slice_index_or};
+ghost use Rattle.std.specs.Prelude.{◌≡◌, cond, ◌&&◌, ◌+◌, ◌^◌, ◌≤◌, ◌<◌, eqb, leb, pos, neg_ℤ, drop, slice_index_or};
 ghost use Rattle.std.specs.Int.Signed.{le_z};
 ghost use Rattle.record_table.specs.Table.{unless, yr, ln, hd, tp, dr, pe, mt, entries_of, record_bytes};
 ghost use Rattle.record_fields.specs.Entry.{outside_at};
@@ -14,7 +14,7 @@ ghost use Rattle.record_judge.specs.Record.{outside_in, verdict, judged_by, judg
 ghost use Rattle.record_judge.specs.Keyed.{keyed, livestock_outside};
 
 use record_fields::Field;
-use record_table::Key;
+use record_table::{Key, RECORD};
 use refusals::{Reason, Refusal};
 
 // The width of a mark, and the offsets of the key's bytes after it.
@@ -39,33 +39,31 @@ pub enum Change {
 pub fn judge(posted: &[u8]) -> Result<Change, Refusal>
     ensures { result ≡ judged posted.now }
 {
-    if posted.len() != record_table::RECORD {
+    let Some(record) = posted.as_array() else {
         return Err(Reason::NotSixteenBytes.at(0));
-    }
-    match number_bytes::number(posted, 0, MARK) {
-        rows::YR => judge_yr(posted),
-        rows::LN => judge_ln(posted),
-        rows::HD => judge_hd(posted),
-        rows::TP => judge_tp(posted),
-        rows::DR => judge_dr(posted),
-        rows::PE => judge_pe(posted),
-        rows::MT => judge_mt(posted),
-        rows::LD => judge_ld(posted),
+    };
+    match number_bytes::number(record, 0, MARK) {
+        rows::YR => judge_yr(record),
+        rows::LN => judge_ln(record),
+        rows::HD => judge_hd(record),
+        rows::TP => judge_tp(record),
+        rows::DR => judge_dr(record),
+        rows::PE => judge_pe(record),
+        rows::MT => judge_mt(record),
+        rows::LD => judge_ld(record),
         _ => Err(Reason::UnknownMark.at(0)),
     }
 }
 
 // Whether a record is a defaults line, which puts the LN that it stands for into its slot (`record_defaults::line`); any other puts itself there.
-pub fn is_defaults(posted: &[u8]) -> bool
-    requires { length posted.now ≡ record_bytes }
+pub fn is_defaults(posted: &[u8; RECORD]) -> bool
     ensures { result ≡ is_defaults posted.now }
 {
     number_bytes::number(posted, 0, MARK) == rows::LD
 }
 
 // A function for each mark. The first entry's place goes before a later one's, and the key's before them all.
-fn judge_yr(posted: &[u8]) -> Result<Change, Refusal>
-    requires { length posted.now ≡ record_bytes }
+fn judge_yr(posted: &[u8; RECORD]) -> Result<Change, Refusal>
     ensures { result ≡ judged_as yr posted.now }
 {
     let zero = record_fields::nonzero(posted, rows::YR_ZEROS);
@@ -74,8 +72,7 @@ fn judge_yr(posted: &[u8]) -> Result<Change, Refusal>
     verdict_on(zero, year.or(month), record_table::year_slot())
 }
 
-fn judge_ln(posted: &[u8]) -> Result<Change, Refusal>
-    requires { length posted.now ≡ record_bytes }
+fn judge_ln(posted: &[u8; RECORD]) -> Result<Change, Refusal>
     ensures { result ≡ judged_as ln posted.now }
 {
     let first = record_fields::nonzero(posted, rows::LN_FIRST_ZERO);
@@ -83,8 +80,7 @@ fn judge_ln(posted: &[u8]) -> Result<Change, Refusal>
     keyed_by_one(posted, record_table::LN, zero, line_outside(posted))
 }
 
-fn line_outside(posted: &[u8]) -> Option<usize>
-    requires { length posted.now ≡ record_bytes }
+fn line_outside(posted: &[u8; RECORD]) -> Option<usize>
     ensures { result ≡ outside_in 3 (drop 1 (entries_of ln)) posted.now }
 {
     let system = record_fields::outside(posted, rows::LN_SYSTEM);
@@ -97,8 +93,7 @@ fn line_outside(posted: &[u8]) -> Option<usize>
     system.or(category.or(solids.or(mass.or(share.or(b0.or(conversion))))))
 }
 
-fn judge_hd(posted: &[u8]) -> Result<Change, Refusal>
-    requires { length posted.now ≡ record_bytes }
+fn judge_hd(posted: &[u8; RECORD]) -> Result<Change, Refusal>
     ensures { result ≡ judged_as hd posted.now }
 {
     let zero = record_fields::nonzero(posted, rows::HD_ZEROS);
@@ -106,8 +101,7 @@ fn judge_hd(posted: &[u8]) -> Result<Change, Refusal>
     keyed_by_two(posted, record_table::HD, zero, head)
 }
 
-fn judge_tp(posted: &[u8]) -> Result<Change, Refusal>
-    requires { length posted.now ≡ record_bytes }
+fn judge_tp(posted: &[u8; RECORD]) -> Result<Change, Refusal>
     ensures { result ≡ judged_as tp posted.now }
 {
     let first = record_fields::nonzero(posted, rows::TP_FIRST_ZERO);
@@ -115,16 +109,14 @@ fn judge_tp(posted: &[u8]) -> Result<Change, Refusal>
     keyed_by_one(posted, record_table::TP, zero, temperature_outside(posted))
 }
 
-fn judge_dr(posted: &[u8]) -> Result<Change, Refusal>
-    requires { length posted.now ≡ record_bytes }
+fn judge_dr(posted: &[u8; RECORD]) -> Result<Change, Refusal>
     ensures { result ≡ judged_as dr posted.now }
 {
     let zero = record_fields::nonzero(posted, rows::DR_ZEROS);
     keyed_by_two(posted, record_table::DR, zero, None)
 }
 
-fn judge_pe(posted: &[u8]) -> Result<Change, Refusal>
-    requires { length posted.now ≡ record_bytes }
+fn judge_pe(posted: &[u8; RECORD]) -> Result<Change, Refusal>
     ensures { result ≡ judged_as pe posted.now }
 {
     let zero = record_fields::nonzero(posted, rows::PE_ZERO);
@@ -139,8 +131,7 @@ fn judge_pe(posted: &[u8]) -> Result<Change, Refusal>
     )
 }
 
-fn judge_mt(posted: &[u8]) -> Result<Change, Refusal>
-    requires { length posted.now ≡ record_bytes }
+fn judge_mt(posted: &[u8; RECORD]) -> Result<Change, Refusal>
     ensures { result ≡ judged_as mt posted.now }
 {
     let zero = record_fields::nonzero(posted, rows::MT_ZEROS);
@@ -149,8 +140,7 @@ fn judge_mt(posted: &[u8]) -> Result<Change, Refusal>
 }
 
 // A defaults line has LN's key (02, (i)).
-fn judge_ld(posted: &[u8]) -> Result<Change, Refusal>
-    requires { length posted.now ≡ record_bytes }
+fn judge_ld(posted: &[u8; RECORD]) -> Result<Change, Refusal>
     ensures { result ≡ judged_by (defaults_entries posted.now) ln posted.now }
 {
     let first = record_fields::nonzero(posted, rows::LD_FIRST_ZERO);
@@ -158,8 +148,7 @@ fn judge_ld(posted: &[u8]) -> Result<Change, Refusal>
     keyed_by_one(posted, record_table::LN, zero, defaults_outside(posted))
 }
 
-fn defaults_outside(posted: &[u8]) -> Option<usize>
-    requires { length posted.now ≡ record_bytes }
+fn defaults_outside(posted: &[u8; RECORD]) -> Option<usize>
     ensures { result ≡ outside_in 3 (drop 1 (defaults_entries posted.now)) posted.now }
 {
     let system = record_fields::outside(posted, rows::LN_SYSTEM);
@@ -171,8 +160,7 @@ fn defaults_outside(posted: &[u8]) -> Option<usize>
 }
 
 // A livestock that Table A.2 lacks is outside whatever the state; one that it has tells which states there are.
-fn livestock_outside(posted: &[u8], later: Option<usize>) -> Option<usize>
-    requires { length posted.now ≡ record_bytes }
+fn livestock_outside(posted: &[u8; RECORD], later: Option<usize>) -> Option<usize>
     ensures { result ≡ livestock_outside posted.now later }
 {
     let livestock = posted[record_defaults::LIVESTOCK_AT];
@@ -202,12 +190,12 @@ fn state_field(livestock: u8) -> Field
 // range.
 // Two functions, and not one over the length of the key: that one would gather the bytes and the wrong place in a loop over arrays, and is no plainer.
 fn keyed_by_one(
-    posted: &[u8],
+    posted: &[u8; RECORD],
     key: Key<1>,
     nonzero: Option<usize>,
     outside: Option<usize>,
 ) -> Result<Change, Refusal>
-    requires { (length posted.now ≡ record_bytes) × (key.first < 2 ^ 32) }
+    requires { key.first < 2 ^ 32 }
     ensures { result ≡ keyed key.first key.most posted.now nonzero outside }
 {
     let first = record_fields::outside(posted, key_field(FIRST_KEY, key.most[0]));
@@ -219,12 +207,12 @@ fn keyed_by_one(
 }
 
 fn keyed_by_two(
-    posted: &[u8],
+    posted: &[u8; RECORD],
     key: Key<2>,
     nonzero: Option<usize>,
     outside: Option<usize>,
 ) -> Result<Change, Refusal>
-    requires { (length posted.now ≡ record_bytes) × (key.first < 2 ^ 32) × (slice_index_or key.most 1 0 < 256) }
+    requires { (key.first < 2 ^ 32) × (slice_index_or key.most 1 0 < 256) }
     ensures { result ≡ keyed key.first key.most posted.now nonzero outside }
 {
     let first = record_fields::outside(posted, key_field(FIRST_KEY, key.most[0]));
@@ -275,8 +263,8 @@ fn verdict_on(
 }
 
 // The offset of a line's conversion factor, if it is outside its range.
-fn conversion_outside(posted: &[u8], at: usize) -> Option<usize>
-    requires { (length posted.now ≡ record_bytes) × (at + 2 ≤ record_bytes) }
+fn conversion_outside(posted: &[u8; RECORD], at: usize) -> Option<usize>
+    requires { at + 2 ≤ record_bytes }
     ensures { result ≡ outside_at posted.now at 2 (unless 3 10000) }
 {
     record_fields::outside(
@@ -301,8 +289,7 @@ fn most_conversion(system: u8) -> u64
 }
 
 // The offset of a temperature that is outside its range.
-fn temperature_outside(posted: &[u8]) -> Option<usize>
-    requires { length posted.now ≡ record_bytes }
+fn temperature_outside(posted: &[u8; RECORD]) -> Option<usize>
     ensures { result ≡ outside_in 3 (drop 1 (entries_of tp)) posted.now }
 {
     let tenths = number_bytes::signed(number_bytes::number(

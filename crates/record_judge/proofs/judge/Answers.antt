@@ -6,52 +6,50 @@ use lib.Dec.{eqb, lit≤}
 use Rattle.std.specs.Prelude.{Err}
 use mathlib.Core.Bool.{false}
 use Rattle.record_judge.specs.Record.{row_in}
-use Rattle.record_judge.proofs.Marks.{short, by_row_lem, by_defaults, no_row}
+use Rattle.record_judge.proofs.Marks.{short, by_mark, by_defaults, by_none}
 use Rattle.record_judge.proofs.judge.Goals as goal
 
-pub returns-then-posted-ne-RECORD : goal.returns-then-posted-ne-RECORD
-unfolding row_in
-returns-then-posted-ne-RECORD c = ap Err c.at.ensures ∙ sym (short _ c.if-posted-ne-RECORD.true)
+pub returns-in_default : goal.returns-in_default
+returns-in_default c = ap Err c.at.ensures ∙ sym (short _ c.in_default.ensures.cases)
 
 pub returns-in-21081 : goal.returns-in-21081
 unfolding row_in
-returns-in-21081 c = by_row_lem _ c.if-posted-ne-RECORD.false _ c.in-21081.is c.number.ensures.value refl (lit≤ tt) c.judge_yr.ensures
+returns-in-21081 c = by_mark _ _ c.in-Some.ensures.cases _ c.in-21081.is c.number.ensures.value refl (lit≤ tt) c.judge_yr.ensures
 
 pub returns-in-20044 : goal.returns-in-20044
 unfolding row_in
-returns-in-20044 c = by_row_lem _ c.if-posted-ne-RECORD.false _ c.in-20044.is c.number.ensures.value refl (lit≤ tt) c.judge_ln.ensures
+returns-in-20044 c = by_mark _ _ c.in-Some.ensures.cases _ c.in-20044.is c.number.ensures.value refl (lit≤ tt) c.judge_ln.ensures
 
 pub returns-in-17480 : goal.returns-in-17480
 unfolding row_in
-returns-in-17480 c = by_row_lem _ c.if-posted-ne-RECORD.false _ c.in-17480.is c.number.ensures.value refl (lit≤ tt) c.judge_hd.ensures
+returns-in-17480 c = by_mark _ _ c.in-Some.ensures.cases _ c.in-17480.is c.number.ensures.value refl (lit≤ tt) c.judge_hd.ensures
 
 pub returns-in-20564 : goal.returns-in-20564
 unfolding row_in
-returns-in-20564 c = by_row_lem _ c.if-posted-ne-RECORD.false _ c.in-20564.is c.number.ensures.value refl (lit≤ tt) c.judge_tp.ensures
+returns-in-20564 c = by_mark _ _ c.in-Some.ensures.cases _ c.in-20564.is c.number.ensures.value refl (lit≤ tt) c.judge_tp.ensures
 
 pub returns-in-21060 : goal.returns-in-21060
 unfolding row_in
-returns-in-21060 c = by_row_lem _ c.if-posted-ne-RECORD.false _ c.in-21060.is c.number.ensures.value refl (lit≤ tt) c.judge_dr.ensures
+returns-in-21060 c = by_mark _ _ c.in-Some.ensures.cases _ c.in-21060.is c.number.ensures.value refl (lit≤ tt) c.judge_dr.ensures
 
 pub returns-in-17744 : goal.returns-in-17744
 unfolding row_in
-returns-in-17744 c = by_row_lem _ c.if-posted-ne-RECORD.false _ c.in-17744.is c.number.ensures.value refl (lit≤ tt) c.judge_pe.ensures
+returns-in-17744 c = by_mark _ _ c.in-Some.ensures.cases _ c.in-17744.is c.number.ensures.value refl (lit≤ tt) c.judge_pe.ensures
 
 pub returns-in-21581 : goal.returns-in-21581
 unfolding row_in
-returns-in-21581 c = by_row_lem _ c.if-posted-ne-RECORD.false _ c.in-21581.is c.number.ensures.value refl (lit≤ tt) c.judge_mt.ensures
+returns-in-21581 c = by_mark _ _ c.in-Some.ensures.cases _ c.in-21581.is c.number.ensures.value refl (lit≤ tt) c.judge_mt.ensures
 
 pub returns-in-17484 : goal.returns-in-17484
-unfolding row_in
-returns-in-17484 c = by_defaults _ c.if-posted-ne-RECORD.false c.in-17484.is c.number.ensures.value c.judge_ld.ensures
+returns-in-17484 c = by_defaults _ _ c.in-Some.ensures.cases c.in-17484.is c.number.ensures.value c.judge_ld.ensures
 
 -- no mark's letters
-pub returns-in_default : goal.returns-in_default
+pub returns-in_default-number : goal.returns-in_default-number
 unfolding row_in
-returns-in_default c =
-    let h = c.in_default.in_default-own.rest in
+returns-in_default-number c =
+    let h = c.in_default-number.in_default-number-own.rest in
     let other : (w : ℕ) → (c.number.result ≡ w → ⊥) → eqb w c.number.result ≡ false = λ w d. ne_eqb w _ (λ e. d (sym e)) in
-    ap Err c.at-in_default.ensures
-    ∙ sym (no_row _ c.if-posted-ne-RECORD.false _ c.number.ensures.value
+    ap Err c.at-in_default-number.ensures
+    ∙ by_none _ _ c.in-Some.ensures.cases _ c.number.ensures.value
     (ne_eqb _ _ h.1)
-    (simp (other _ h.0.0.0.0.0.0.0.1, other _ h.0.0.0.0.0.0.1, other _ h.0.0.0.0.0.1, other _ h.0.0.0.0.1, other _ h.0.0.0.1, other _ h.0.0.1, other _ h.0.1) (lit≤ tt)))
+    (simp (other _ h.0.0.0.0.0.0.0.1, other _ h.0.0.0.0.0.0.1, other _ h.0.0.0.0.0.1, other _ h.0.0.0.0.1, other _ h.0.0.0.1, other _ h.0.0.1, other _ h.0.1) (lit≤ tt))
