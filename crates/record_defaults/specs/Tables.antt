@@ -1,6 +1,6 @@
 -- The protocol's defaults (02, (i)): Tables A.2, A.3 and A.5 in LN's units, a livestock by its row of A.2 and a state by its row of A.5, both from 1.
 -- Assumes nothing.
-use Rattle.std.specs.Prelude.{ℕ, ◌-◌, ◌≤◌, get_or}
+use Rattle.std.specs.Prelude.{ℕ, ◌-◌, ◌≤◌, ◌&&◌, leb, get_or, Option, None, Some}
 use mathlib.Core.{Bool.Bool, Bool.true, Bool.false, Bool.cond, List.List, List.[], List.◌∷◌}
 use Rattle.record_defaults.specs.declared.SolidsEntry.{SolidsEntry, TheVariants.Own, TheVariants.Column}
 
@@ -130,6 +130,10 @@ asks_state livestock = goes_by_state (solids_entry livestock)
 -- a livestock that Table A.2 has
 abbrev pub Livestock : ℕ → Type 0
 Livestock livestock = (1 ≤ livestock) × (livestock ≤ livestock_count)
+
+-- a number as the livestock of that row, if Table A.2 has it
+unfoldable pub livestock_of : ℕ → Option ℕ
+livestock_of n = cond (leb 1 n && leb n livestock_count) (Some n) None
 
 -- the states that a livestock allows: a row of Table A.5 where its solids go by state, and 0 alone where not
 abbrev pub lowest_state : ℕ → ℕ

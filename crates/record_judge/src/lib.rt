@@ -1,5 +1,5 @@
 // A record alone: its mark, its zero bytes and its fields; and what it does, where nothing is wrong with them.
-#![tactic(auto, unfolding(record_table::specs::Slot::count, record_table::specs::Slot::total, record_table::specs::Slot::slot_of, record_fields::specs::Entry::in_range, record_fields::specs::Entry::outside_at, crate::specs::Record::nonzero_in, crate::specs::Record::outside_in, crate::specs::Record::key_in, crate::specs::Record::key_of, crate::specs::Record::verdict, crate::specs::Record::judged_as, crate::specs::Keyed::key_outside, crate::specs::Keyed::keyed, crate::specs::Keyed::livestock_outside, crate::specs::Defaults::is_defaults))]
+#![tactic(auto, unfolding(record_table::specs::Slot::count, record_table::specs::Slot::total, record_table::specs::Slot::slot_of, record_fields::specs::Entry::in_range, record_fields::specs::Entry::outside_at, crate::specs::Record::nonzero_in, crate::specs::Record::outside_in, crate::specs::Record::key_in, crate::specs::Record::key_of, crate::specs::Record::verdict, crate::specs::Record::judged_as, crate::specs::Keyed::key_outside, crate::specs::Keyed::keyed, crate::specs::Keyed::livestock_outside, record_defaults::specs::Tables::livestock_of, crate::specs::Defaults::is_defaults))]
 
 pub mod rows;
 
@@ -7,12 +7,13 @@ ghost use Rattle.std.specs.Prelude.{◌≡◌, cond, ◌&&◌, ◌+◌, ◌^◌,
 ghost use Rattle.std.specs.Int.Signed.{le_z};
 ghost use Rattle.record_table.specs.Table.{unless, yr, ln, hd, tp, dr, pe, mt, entries_of, record_bytes};
 ghost use Rattle.record_fields.specs.Entry.{outside_at};
-ghost use Rattle.record_defaults.specs.Tables.{livestock_count, Livestock, lowest_state, highest_state};
+ghost use Rattle.record_defaults.specs.Tables.{lowest_state, highest_state};
 ghost use Rattle.record_defaults.specs.StandsFor.{state_at};
 ghost use Rattle.record_judge.specs.Defaults.{is_defaults, defaults_entries};
 ghost use Rattle.record_judge.specs.Record.{outside_in, verdict, judged_by, judged_as, judged};
 ghost use Rattle.record_judge.specs.Keyed.{keyed, livestock_outside};
 
+use record_defaults::Livestock;
 use record_fields::Field;
 use record_table::{Key, RECORD};
 use refusals::{Reason, Refusal};
@@ -163,24 +164,16 @@ fn defaults_outside(posted: &[u8; RECORD]) -> Option<usize>
 fn livestock_outside(posted: &[u8; RECORD], later: Option<usize>) -> Option<usize>
     ensures { result ≡ livestock_outside posted.now later }
 {
-    let livestock = posted[record_defaults::LIVESTOCK_AT];
-    if !is_livestock(livestock) {
+    let Some(livestock) = Livestock::new(posted[record_defaults::LIVESTOCK_AT]) else {
         return Some(record_defaults::LIVESTOCK_AT);
-    }
+    };
     record_fields::outside(posted, state_field(livestock)).or(later)
 }
 
-fn is_livestock(livestock: u8) -> bool
-    ensures { result ≡ (leb 1 livestock && leb livestock livestock_count) }
-{
-    1 <= livestock && livestock <= record_defaults::LIVESTOCK_COUNT as u8
-}
-
-fn state_field(livestock: u8) -> Field
-    requires { Livestock livestock }
+fn state_field(livestock: Livestock) -> Field
     ensures { (result.at ≡ state_at) × (result.wide ≡ 1) × (result.low ≡ lowest_state livestock) × (result.high ≡ highest_state livestock) }
 {
-    if record_defaults::asks_state(livestock) {
+    if livestock.asks_state() {
         return rows::LD_STATE;
     }
     rows::LD_NO_STATE
