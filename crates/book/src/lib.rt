@@ -9,6 +9,9 @@ ghost use Rattle.book.specs.Book.{book_bytes, nothing, book_with, book_filled, a
 ghost use Rattle.book.specs.Valid.{Valid};
 ghost use Rattle.book.specs.Run.{records_of, answer_all, book_all};
 
+mod read;
+
+pub use read::Book;
 use record_judge::Change;
 use record_table::RECORD;
 use refusals::{Reason, Refusal};

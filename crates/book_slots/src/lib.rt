@@ -6,59 +6,57 @@ ghost use Rattle.record_table.specs.Table.{months, devices, yr, tp, pe, record_b
 ghost use Rattle.number_bytes.specs.Number.{number_at, signed_of};
 ghost use Rattle.record_table.specs.Slot.{slots, slot_of};
 ghost use Rattle.book.specs.Book.{free};
-ghost use Rattle.book.specs.Valid.{Valid};
 ghost use Rattle.book_slots.specs.Field.{place_of, bytes_of, seen_at};
 ghost use Rattle.book_slots.specs.Reads.{first_year_of, first_month_of, temperature_of, project_methane_of, baseline_co2_of, project_co2_of, destroyed_of};
 
+use book::Book;
 use record_fields::Field;
 use record_judge::rows;
 
-pub fn first_year(book: &[u8]) -> Option<u64>
-    requires { Valid book.now }
+pub fn first_year(book: &Book<'_>) -> Option<u64>
     ensures { result ≡ first_year_of book.now }
 {
     year_field(book, rows::YR_FIRST_YEAR)
 }
 
-pub fn first_month(book: &[u8]) -> Option<u64>
-    requires { Valid book.now }
+pub fn first_month(book: &Book<'_>) -> Option<u64>
     ensures { result ≡ first_month_of book.now }
 {
     year_field(book, rows::YR_FIRST_MONTH)
 }
 
 // In tenths of a degree.
-pub fn temperature(book: &[u8], month: usize) -> Option<i16>
-    requires { (Valid book.now) × (month ≤ months) }
+pub fn temperature(book: &Book<'_>, month: usize) -> Option<i16>
+    requires { month ≤ months }
     ensures { result ≡ temperature_of book.now month }
 {
     let slot = record_table::temperature_slot(month);
-    filled(book, slot).then(|| tenths(book, slot))
+    filled(book, slot).then_some(tenths(book, slot))
 }
 
-pub fn project_methane(book: &[u8], month: usize) -> Option<u64>
-    requires { (Valid book.now) × (month ≤ months) }
+pub fn project_methane(book: &Book<'_>, month: usize) -> Option<u64>
+    requires { month ≤ months }
     ensures { result ≡ project_methane_of book.now month }
 {
     project_field(book, month, rows::PE_PROJECT_METHANE)
 }
 
-pub fn baseline_co2(book: &[u8], month: usize) -> Option<u64>
-    requires { (Valid book.now) × (month ≤ months) }
+pub fn baseline_co2(book: &Book<'_>, month: usize) -> Option<u64>
+    requires { month ≤ months }
     ensures { result ≡ baseline_co2_of book.now month }
 {
     project_field(book, month, rows::PE_BASELINE_CO2)
 }
 
-pub fn project_co2(book: &[u8], month: usize) -> Option<u64>
-    requires { (Valid book.now) × (month ≤ months) }
+pub fn project_co2(book: &Book<'_>, month: usize) -> Option<u64>
+    requires { month ≤ months }
     ensures { result ≡ project_co2_of book.now month }
 {
     project_field(book, month, rows::PE_PROJECT_CO2)
 }
 
-pub fn destroyed(book: &[u8], month: usize, device: usize) -> Option<u64>
-    requires { (Valid book.now) × (month ≤ months) × (device ≤ devices) }
+pub fn destroyed(book: &Book<'_>, month: usize, device: usize) -> Option<u64>
+    requires { (month ≤ months) × (device ≤ devices) }
     ensures { result ≡ destroyed_of book.now month device }
 {
     read(
@@ -69,51 +67,52 @@ pub fn destroyed(book: &[u8], month: usize, device: usize) -> Option<u64>
 }
 
 // One field of the slot of a mark and its key.
-fn year_field(book: &[u8], entry: Field) -> Option<u64>
-    requires { (Valid book.now) × (entry.at + entry.wide ≤ record_bytes) × (entry.wide ≤ 8) }
+fn year_field(book: &Book<'_>, entry: Field) -> Option<u64>
+    requires { (entry.at + entry.wide ≤ record_bytes) × (entry.wide ≤ 8) }
     ensures { result ≡ seen_at book.now (slot_of yr []) entry.at entry.wide }
 {
     read(book, record_table::year_slot(), entry)
 }
 
-fn project_field(book: &[u8], month: usize, entry: Field) -> Option<u64>
-    requires { (Valid book.now) × (month ≤ months) × (entry.at + entry.wide ≤ record_bytes) × (entry.wide ≤ 8) }
+fn project_field(book: &Book<'_>, month: usize, entry: Field) -> Option<u64>
+    requires { (month ≤ months) × (entry.at + entry.wide ≤ record_bytes) × (entry.wide ≤ 8) }
     ensures { result ≡ seen_at book.now (slot_of pe (month ∷ [])) entry.at entry.wide }
 {
     read(book, record_table::project_slot(month), entry)
 }
 
 #[tactic(auto, unfolding(crate::specs::Field::seen_at))]
-pub fn read(book: &[u8], slot: usize, entry: Field) -> Option<u64>
-    requires { (Valid book.now) × (slot < slots) × (entry.at + entry.wide ≤ record_bytes) × (entry.wide ≤ 8) }
+pub fn read(book: &Book<'_>, slot: usize, entry: Field) -> Option<u64>
+    requires { (slot < slots) × (entry.at + entry.wide ≤ record_bytes) × (entry.wide ≤ 8) }
     ensures { result ≡ seen_at book.now slot entry.at entry.wide }
 {
-    filled(book, slot).then(|| field(book, slot, entry))
+    filled(book, slot).then_some(field(book, slot, entry))
 }
 
 #[tactic(auto, unfolding(book::specs::Book::free))]
-pub fn filled(book: &[u8], slot: usize) -> bool
-    requires { (Valid book.now) × (slot < slots) }
+pub fn filled(book: &Book<'_>, slot: usize) -> bool
+    requires { slot < slots }
     ensures { result ≡ not (free book.now slot) }
 {
-    book[slot * record_table::RECORD] != 0
+    book.bytes[slot * record_table::RECORD] != 0
 }
 
 // The number in a slot, filled or not: 0 where it is empty.
-pub fn field(book: &[u8], slot: usize, entry: Field) -> u64
-    requires { (Valid book.now) × (slot < slots) × (entry.at + entry.wide ≤ record_bytes) × (entry.wide ≤ 8) }
+pub fn field(book: &Book<'_>, slot: usize, entry: Field) -> u64
+    requires { (slot < slots) × (entry.at + entry.wide ≤ record_bytes) × (entry.wide ≤ 8) }
     ensures { result ≡ number_at book.now (slot * record_bytes + entry.at) entry.wide }
 {
-    number_bytes::number(book, slot * record_table::RECORD + entry.at, entry.wide)
+    let bytes = book.bytes;
+    number_bytes::number(bytes, slot * record_table::RECORD + entry.at, entry.wide)
 }
 
 // A temperature's slot as a signed number, filled or not: 0 where it is empty.
-fn tenths(book: &[u8], slot: usize) -> i16
-    requires { (Valid book.now) × (slot < slots) }
+fn tenths(book: &Book<'_>, slot: usize) -> i16
+    requires { slot < slots }
     ensures { result ≡ signed_of (number_at book.now (slot * record_bytes + place_of tp 2) (bytes_of tp 2)) }
 {
     number_bytes::signed(number_bytes::number(
-        book,
+        book.bytes,
         slot * record_table::RECORD + rows::TP_TEMPERATURE_AT,
         rows::TP_TEMPERATURE_BYTES,
     ))

@@ -11,6 +11,7 @@ ghost use Rattle.meter_feet.specs.Feet.{recorded_of};
 ghost use Rattle.meter_reading.specs.Exact.{litres_of, hundredths_of};
 ghost use Rattle.cabinet.specs.Face.{sized, emptied, posted_of, year_of, month_of, feet_hour_of, reading_of};
 
+use book::Book;
 use meter_feet::Sample;
 use meter_hour::Recorded;
 use refusals::Refusal;
@@ -194,7 +195,7 @@ pub extern "C" fn cabinet_year(book: &[u8], year: u64) -> CabinetYear
     requires { Valid book.now }
     ensures { result ≡ year_of (year_answer_of book.now year) }
 {
-    CabinetYear::from(year::year(book, year))
+    CabinetYear::from(year::year(&Book::of(book), year))
 }
 
 // The month of one meter in cubic metres, for any lengths and any bytes.

@@ -3,10 +3,11 @@
 #![tactic(auto)]
 
 ghost use Rattle.std.specs.Prelude.{◌≤◌, length};
-ghost use Rattle.book.specs.Valid.{Valid};
 ghost use Rattle.print_page.specs.Page.{Lays};
 ghost use Rattle.print_years.specs.Text.{printed};
 ghost use Rattle.print_years.specs.Page.{page_bytes};
+
+use book::Book;
 
 // The years that are printed: 1 to 10.
 const YEARS: u64 = 10;
@@ -18,8 +19,8 @@ pub const PAGE_BYTES: usize = YEARS as usize * YEAR_BYTES;
 
 // The years of a book, each worked out by itself, from the page's first byte on. The first that is refused
 // prints its refusal and is the last.
-pub fn lay_years(book: &[u8], page: &mut [u8]) -> usize
-    requires { (Valid book.now) × (page_bytes ≤ length page.old) }
+pub fn lay_years(book: &Book<'_>, page: &mut [u8]) -> usize
+    requires { page_bytes ≤ length page.old }
     ensures { Lays page.old 0 (printed book.now) result page.new }
 {
     let mut at = 0;

@@ -2,11 +2,11 @@
 #![tactic(auto)]
 
 ghost use Rattle.std.specs.Prelude.{◌≡◌};
-ghost use Rattle.book.specs.Valid.{Valid};
 ghost use Rattle.year_months.specs.Asks.{InPeriod};
 ghost use Rattle.year.specs.Figures.{figures_of};
 ghost use Rattle.year.specs.Answer.{answer_of};
 
+use book::Book;
 use refusals::{Reason, Refusal};
 use units::{Co2e, Solids};
 
@@ -34,10 +34,10 @@ pub struct Figures {
 // added up, or for a category's shares (7); else its figures are stated. No sum of it can pass 2^63, so that nothing
 // looks for it (12).
 #[tactic(auto, using(crate::proofs::Never::never), unfolding(crate::specs::Answer::answer_of, crate::specs::Answer::whole_year, year_shares::specs::Shares::fit_of))]
-pub fn year(book: &[u8], year: u64) -> Result<Figures, Refusal>
-    requires { Valid book.now }
+pub fn year(book: &Book<'_>, year: u64) -> Result<Figures, Refusal>
     ensures { result ≡ answer_of book.now year }
 {
+    book.known();
     if year < FIRST_YEAR || LAST_YEAR < year {
         return Err(Reason::NoSuchYear.at(0));
     }
@@ -51,11 +51,11 @@ pub fn year(book: &[u8], year: u64) -> Result<Figures, Refusal>
     Ok(figures_of(book, counted))
 }
 
-fn figures_of(book: &[u8], year: usize) -> Figures
-    requires valid { Valid book.now }
+fn figures_of(book: &Book<'_>, year: usize) -> Figures
     requires in_period { InPeriod year }
     ensures { result ≡ figures_of book.now year }
 {
+    book.known();
     let sums = year_lines::sums_of(book, year);
     let operator = year_credit::operator_of(book, year);
     let net = tonnes::net(year_credit::total(sums.baseline, operator));

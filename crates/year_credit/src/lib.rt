@@ -3,12 +3,12 @@
 
 ghost use Rattle.std.specs.Prelude.{◌≡◌, ◌≤◌, ◌<◌, ◌^◌, pos};
 ghost use Rattle.record_table.specs.Table.{months};
-ghost use Rattle.book.specs.Valid.{Valid};
 ghost use Rattle.year_months.specs.Series.{amount_of};
 ghost use Rattle.year_months.specs.Asks.{InPeriod};
 ghost use Rattle.year_credit.specs.Credit.{grams_of, destroyed_at, operator_of, modelled_of, metered_of, lesser_of, total_of};
 ghost use Rattle.year_credit.specs.Asks.{sums_most, OperatorFits};
 
+use book::Book;
 use units::{Co2e, Methane};
 use year_months::MONTHS_IN_YEAR;
 
@@ -26,11 +26,11 @@ pub struct Operator {
 }
 
 // What the operator entered for the year, its twelve months together.
-pub fn operator_of(book: &[u8], year: usize) -> Operator
-    requires valid { Valid book.now }
+pub fn operator_of(book: &Book<'_>, year: usize) -> Operator
     requires in_period { InPeriod year }
     ensures { result ≡ operator_of book.now year }
 {
+    book.known();
     let before = year_months::months_before(year);
     let mut project_methane = Co2e::of_grams(0);
     let mut baseline_co2 = Co2e::of_grams(0);
@@ -59,11 +59,11 @@ fn grams(kilograms: Option<u64>) -> Co2e
 }
 
 // All devices; one without MT counts 0.
-fn destroyed_in(book: &[u8], month: usize) -> Methane
-    requires valid { Valid book.now }
+fn destroyed_in(book: &Book<'_>, month: usize) -> Methane
     requires month_within { month ≤ months }
     ensures { result ≡ destroyed_at book.now month }
 {
+    book.known();
     let mut destroyed = Methane::of_grams(0);
     for device in 1..=record_table::DEVICES {
         let grams = book_slots::destroyed(book, month, device).unwrap_or(0);

@@ -3,18 +3,17 @@
 
 ghost use Rattle.std.specs.Prelude.{◌≡◌, ◌≤◌};
 ghost use Rattle.record_table.specs.Table.{categories, months};
-ghost use Rattle.book.specs.Valid.{Valid};
 ghost use Rattle.year_months.specs.Asks.{InPeriod};
 ghost use Rattle.year_heads.specs.Heads.{head_at, heads_of};
 ghost use Rattle.year_heads.specs.Asks.{HoldsHeads};
 
+use book::Book;
 use record_table::CATEGORIES;
 use year_months::MONTHS_IN_YEAR;
 
 // The sum of the year's twelve heads of each category, first to last. All lines of a category share it.
 #[tactic(auto, using(year_months::proofs::Arrays::array_begins, year_months::proofs::Arrays::array_more, year_months::proofs::Arrays::array_full))]
-pub fn by_category(book: &[u8], year: usize) -> [u64; CATEGORIES]
-    requires valid { Valid book.now }
+pub fn by_category(book: &Book<'_>, year: usize) -> [u64; CATEGORIES]
     requires in_period { InPeriod year }
     ensures { HoldsHeads book.now year result }
 {
@@ -25,12 +24,12 @@ pub fn by_category(book: &[u8], year: usize) -> [u64; CATEGORIES]
     heads
 }
 
-fn of_category(book: &[u8], year: usize, category: usize) -> u64
-    requires valid { Valid book.now }
+fn of_category(book: &Book<'_>, year: usize, category: usize) -> u64
     requires in_period { InPeriod year }
     requires category_within { category ≤ categories }
     ensures { result ≡ heads_of book.now year category }
 {
+    book.known();
     let before = year_months::months_before(year);
     let mut heads = 0;
     for month in 1..=MONTHS_IN_YEAR {
@@ -40,8 +39,7 @@ fn of_category(book: &[u8], year: usize, category: usize) -> u64
 }
 
 #[tactic(auto, unfolding(crate::specs::Heads::head_at))]
-fn head(book: &[u8], category: usize, month: usize) -> u64
-    requires valid { Valid book.now }
+fn head(book: &Book<'_>, category: usize, month: usize) -> u64
     requires within { (category ≤ categories) × (month ≤ months) }
     ensures { result ≡ head_at book.now category month }
 {

@@ -7,12 +7,12 @@ ghost use Rattle.lagoon_month.specs.Asks.{heads_most};
 ghost use Rattle.lagoon_month.specs.declared.Month.{Month};
 ghost use Rattle.lagoon_run.specs.Run.{no_month};
 ghost use Rattle.record_table.specs.Table.{lines, categories};
-ghost use Rattle.book.specs.Valid.{Valid};
 ghost use Rattle.book_herd.specs.Herd.{system_of};
 ghost use Rattle.year_months.specs.Asks.{InPeriod, HoldsYear};
 ghost use Rattle.year_lines.specs.Lines.{anaerobic, month_at, other_of, line_in, all, sums_of};
 ghost use Rattle.year_lines.specs.Asks.{Handed, HoldsFigures, Standings};
 
+use book::Book;
 use book_herd::Line;
 use lagoon_month::{Month, Standing};
 use record_table::CATEGORIES;
@@ -36,8 +36,7 @@ const CONVERSION_PARTS: u64 = 10_000;
 
 // All lines of a year. The standing that each has from the years before is worked out first, from the first
 // month.
-pub fn sums_of(book: &[u8], year: usize) -> Sums
-    requires valid { Valid book.now }
+pub fn sums_of(book: &Book<'_>, year: usize) -> Sums
     requires in_period { InPeriod year }
     ensures { result ≡ sums_of book.now year all }
 {
@@ -45,8 +44,7 @@ pub fn sums_of(book: &[u8], year: usize) -> Sums
 }
 
 // The standing that each line has from the years before: one after the other, from empty lagoons.
-fn standings_before(book: &[u8], year: usize) -> [Standing; LINES]
-    requires valid { Valid book.now }
+fn standings_before(book: &Book<'_>, year: usize) -> [Standing; LINES]
     requires in_period { InPeriod year }
     ensures { Standings book.now (year - 1) result }
 {
@@ -62,8 +60,7 @@ fn standings_before(book: &[u8], year: usize) -> [Standing; LINES]
 
 // The standing that each line hands on from an earlier year: nothing else is asked of it, and its sums are
 // left out.
-fn standings_after(book: &[u8], earlier: usize, before: [Standing; LINES]) -> [Standing; LINES]
-    requires valid { Valid book.now }
+fn standings_after(book: &Book<'_>, earlier: usize, before: [Standing; LINES]) -> [Standing; LINES]
     requires in_period { InPeriod earlier }
     requires standings { Standings book.now (earlier - 1) before }
     ensures { Standings book.now earlier result }
@@ -78,12 +75,12 @@ fn standings_after(book: &[u8], earlier: usize, before: [Standing; LINES]) -> [S
 }
 
 // All lines, each from the standing that the years before handed on.
-fn sums_from(book: &[u8], year: usize, before: [Standing; LINES]) -> Sums
-    requires valid { Valid book.now }
+fn sums_from(book: &Book<'_>, year: usize, before: [Standing; LINES]) -> Sums
     requires in_period { InPeriod year }
     requires standings { Standings book.now (year - 1) before }
     ensures { result ≡ sums_of book.now year all }
 {
+    book.known();
     let figures = YearFigures::of(book, year);
     let mut sums = Sums::nothing();
     for line in 1..=LINES {
@@ -103,8 +100,7 @@ struct YearFigures {
 }
 
 impl YearFigures {
-    fn of(book: &[u8], year: usize) -> Self
-        requires valid { Valid book.now }
+    fn of(book: &Book<'_>, year: usize) -> Self
         requires in_period { InPeriod year }
         ensures { HoldsFigures book.now year result }
     {
@@ -117,14 +113,14 @@ impl YearFigures {
 
     // What one line hands on. A line of another system than the anaerobic has no standing: the one that it
     // is given is handed on as it is, and nothing reads it.
-    fn line_hands_on(&self, book: &[u8], year: usize, line: usize, from: Standing) -> Standing
-        requires valid { Valid book.now }
+    fn line_hands_on(&self, book: &Book<'_>, year: usize, line: usize, from: Standing) -> Standing
         requires in_period { InPeriod year }
         requires line_of_book { line ≤ lines }
         requires handed { Handed book.now (year - 1) line from }
         requires figures { HoldsFigures book.now year self.now }
         ensures { Handed book.now year line result }
     {
+        book.known();
         let Some(system) = book_herd::system(book, line) else {
             return from;
         };
@@ -136,14 +132,14 @@ impl YearFigures {
     }
 
     // One line, by its system.
-    fn line_in(&self, book: &[u8], year: usize, line: usize, from: Standing) -> Sums
-        requires valid { Valid book.now }
+    fn line_in(&self, book: &Book<'_>, year: usize, line: usize, from: Standing) -> Sums
         requires in_period { InPeriod year }
         requires line_of_book { line ≤ lines }
         requires handed { Handed book.now (year - 1) line from }
         requires figures { HoldsFigures book.now year self.now }
         ensures { result ≡ line_in book.now year line }
     {
+        book.known();
         let Some(system) = book_herd::system(book, line) else {
             return Sums::nothing();
         };
@@ -158,14 +154,14 @@ impl YearFigures {
 
     // The months of an anaerobic line in the year, first to last.
     #[tactic(auto, using(year_months::proofs::Arrays::array_begins, year_months::proofs::Arrays::array_more, year_months::proofs::Arrays::array_full))]
-    fn months_of_line(&self, book: &[u8], year: usize, line: usize) -> [Month; MONTHS_IN_YEAR]
-        requires valid { Valid book.now }
+    fn months_of_line(&self, book: &Book<'_>, year: usize, line: usize) -> [Month; MONTHS_IN_YEAR]
         requires in_period { InPeriod year }
         requires line_of_book { line ≤ lines }
         requires is_anaerobic { system_of book.now line ≡ Some anaerobic }
         requires figures { HoldsFigures book.now year self.now }
         ensures { HoldsYear Month no_month year (month_at book.now line) result }
     {
+        book.known();
         let numbers = book_herd::line_at(book, line);
         let heads = self.own_heads(numbers);
         let before = year_months::months_before(year);

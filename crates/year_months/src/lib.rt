@@ -4,9 +4,10 @@
 ghost use Rattle.std.specs.Prelude.{◌≡◌, ℕ, ◌+◌, ◌≤◌};
 ghost use Rattle.calendar.specs.Days.{months_in_year, days_of};
 ghost use Rattle.record_table.specs.Table.{months};
-ghost use Rattle.book.specs.Valid.{Valid};
 ghost use Rattle.year_months.specs.Series.{months_before, months_through, days_at, factor_at, factor_by};
 ghost use Rattle.year_months.specs.Asks.{InPeriod, Holds, HoldsYear};
+
+use book::Book;
 
 // Twelve to a year of the crediting period, whichever month it starts with.
 pub const MONTHS_IN_YEAR: usize = 12;
@@ -27,11 +28,11 @@ pub fn months_through(year: usize) -> usize
 
 // The days of the year's months, first to last.
 #[tactic(auto, using(crate::proofs::Ranges::first_year_most, crate::proofs::Ranges::first_month_most), unfolding(crate::specs::Series::days_at))]
-pub fn days(book: &[u8], year: usize) -> [u64; MONTHS_IN_YEAR]
-    requires valid { Valid book.now }
+pub fn days(book: &Book<'_>, year: usize) -> [u64; MONTHS_IN_YEAR]
     requires in_period { InPeriod year }
     ensures { HoldsYear ℕ 0 year (days_at book.now) result }
 {
+    book.known();
     let first_year = book_slots::first_year(book).unwrap_or(0);
     let first_month = book_slots::first_month(book).unwrap_or(0);
     lengths(first_year, first_month, months_before(year))
@@ -54,8 +55,7 @@ fn lengths(first_year: u64, first_month: u64, before: usize) -> [u64; MONTHS_IN_
 
 // The factors of the year's months, first to last; 0 where the temperature is not known.
 #[tactic(auto, using(crate::proofs::Arrays::array_begins, crate::proofs::Arrays::array_more, crate::proofs::Arrays::array_full), unfolding(crate::specs::Series::factor_at))]
-pub fn factors(book: &[u8], year: usize) -> [u64; MONTHS_IN_YEAR]
-    requires valid { Valid book.now }
+pub fn factors(book: &Book<'_>, year: usize) -> [u64; MONTHS_IN_YEAR]
     requires in_period { InPeriod year }
     ensures { HoldsYear ℕ 0 year (factor_at book.now) result }
 {

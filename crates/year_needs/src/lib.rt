@@ -3,11 +3,11 @@
 
 ghost use Rattle.std.specs.Prelude.{◌≡◌, ◌&&◌, ◌≤◌, Some};
 ghost use Rattle.record_table.specs.Table.{lines, categories, months};
-ghost use Rattle.book.specs.Valid.{Valid};
 ghost use Rattle.year_months.specs.Asks.{InPeriod};
 ghost use Rattle.year_needs.specs.Complete.{any_line, uncounted, headless, lacks, lacking_month, complete_of};
 ghost use Rattle.year_needs.specs.Asks.{Lined};
 
+use book::Book;
 use refusals::{Reason, Refusal};
 
 // Room for a flag at each category number. A line that is not in the book has number 0.
@@ -16,8 +16,7 @@ const CATEGORY_FLAGS: usize = record_table::CATEGORIES + 1;
 // Whether a year has the records that it needs. YR and a line are looked at first, and then each month
 // through the year's end.
 #[tactic(auto, unfolding(crate::specs::Complete::complete_of, crate::specs::Complete::lacking_month))]
-pub fn complete(book: &[u8], year: usize) -> Result<(), Refusal>
-    requires valid { Valid book.now }
+pub fn complete(book: &Book<'_>, year: usize) -> Result<(), Refusal>
     requires in_period { InPeriod year }
     ensures { result ≡ complete_of book.now year }
 {
@@ -30,8 +29,7 @@ pub fn complete(book: &[u8], year: usize) -> Result<(), Refusal>
     }
 }
 
-fn any_line(book: &[u8]) -> bool
-    requires { Valid book.now }
+fn any_line(book: &Book<'_>) -> bool
     ensures { result ≡ any_line book.now }
 {
     (1..record_table::LINES + 1).any(|line| book_herd::category(book, line).is_some())
@@ -39,10 +37,10 @@ fn any_line(book: &[u8]) -> bool
 
 // Which categories have a line: looked at once, and not again in each month.
 #[tactic(auto, using(crate::proofs::Ranges::category_amount))]
-fn lined_categories(book: &[u8]) -> [bool; CATEGORY_FLAGS]
-    requires { Valid book.now }
+fn lined_categories(book: &Book<'_>) -> [bool; CATEGORY_FLAGS]
     ensures { Lined book.now lines result }
 {
+    book.known();
     let mut lined = [false; CATEGORY_FLAGS];
     for line in 1..=record_table::LINES {
         let category = book_herd::category(book, line).unwrap_or(0) as usize;
@@ -52,8 +50,7 @@ fn lined_categories(book: &[u8]) -> [bool; CATEGORY_FLAGS]
 }
 
 // The lowest month through the year's end that lacks a record.
-fn first_lacking(book: &[u8], year: usize, lined: &[bool]) -> Option<usize>
-    requires valid { Valid book.now }
+fn first_lacking(book: &Book<'_>, year: usize, lined: &[bool]) -> Option<usize>
     requires in_period { InPeriod year }
     requires lined { Lined book.now lines lined.now }
     ensures { result ≡ lacking_month book.now year }
@@ -63,8 +60,7 @@ fn first_lacking(book: &[u8], year: usize, lined: &[bool]) -> Option<usize>
 }
 
 #[tactic(auto, unfolding(crate::specs::Complete::lacks))]
-fn is_lacking(book: &[u8], year: usize, month: usize, lined: &[bool]) -> bool
-    requires valid { Valid book.now }
+fn is_lacking(book: &Book<'_>, year: usize, month: usize, lined: &[bool]) -> bool
     requires in_period { InPeriod year }
     requires month_within { month ≤ months }
     requires lined { Lined book.now lines lined.now }
@@ -77,17 +73,16 @@ fn is_lacking(book: &[u8], year: usize, month: usize, lined: &[bool]) -> bool
 }
 
 // Whether the category of a line has no head count in the month.
-fn is_headless(book: &[u8], month: usize, lined: &[bool]) -> bool
-    requires valid { Valid book.now }
+fn is_headless(book: &Book<'_>, month: usize, lined: &[bool]) -> bool
     requires month_within { month ≤ months }
     requires lined { Lined book.now lines lined.now }
     ensures { result ≡ headless book.now month }
 {
+    book.known();
     (1..CATEGORY_FLAGS).any(|category| is_uncounted(book, category, month, lined[category]))
 }
 
-fn is_uncounted(book: &[u8], category: usize, month: usize, lined: bool) -> bool
-    requires valid { Valid book.now }
+fn is_uncounted(book: &Book<'_>, category: usize, month: usize, lined: bool) -> bool
     requires category_within { category ≤ categories }
     requires month_within { month ≤ months }
     ensures { result ≡ (lined && uncounted book.now month (Some category)) }

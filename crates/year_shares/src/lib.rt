@@ -2,11 +2,11 @@
 #![tactic(auto)]
 
 ghost use Rattle.std.specs.Prelude.{◌≡◌};
-ghost use Rattle.book.specs.Valid.{Valid};
 ghost use Rattle.record_table.specs.Table.{lines};
 ghost use Rattle.year_shares.specs.Shares.{fit_of};
 ghost use Rattle.year_shares.specs.Asks.{Shared};
 
+use book::Book;
 use refusals::{Reason, Refusal};
 
 // Shares count ten-thousandths.
@@ -16,8 +16,7 @@ const WHOLE_SHARE: u64 = 10_000;
 const CATEGORY_SUMS: usize = record_table::CATEGORIES + 1;
 
 // Whether the shares of each category fit into the whole: else the lowest category whose shares do not.
-pub fn fit(book: &[u8]) -> Result<(), Refusal>
-    requires { Valid book.now }
+pub fn fit(book: &Book<'_>) -> Result<(), Refusal>
     ensures { result ≡ fit_of book.now }
 {
     let shares = shares(book);
@@ -30,10 +29,10 @@ pub fn fit(book: &[u8]) -> Result<(), Refusal>
 }
 
 // The sum of each category's shares.
-fn shares(book: &[u8]) -> [u64; CATEGORY_SUMS]
-    requires { Valid book.now }
+fn shares(book: &Book<'_>) -> [u64; CATEGORY_SUMS]
     ensures { Shared book.now lines result }
 {
+    book.known();
     let mut shares = [0u64; CATEGORY_SUMS];
     for line in 1..=record_table::LINES {
         let numbers = book_herd::line_at(book, line);

@@ -8,6 +8,7 @@ ghost use Rattle.book.specs.Book.{book_bytes};
 ghost use Rattle.print_years.specs.Page.{page_bytes};
 ghost use Rattle.years.specs.Input.{Comes};
 
+use book::Book;
 use program_feed::Stop;
 use program_input::Failure;
 use std::io;
@@ -54,7 +55,7 @@ fn lay_input<R: Read>(
 {
     book::empty(book);
     match program_feed::post_input(reader, book, block) {
-        Ok(()) => Ok(print_years::lay_years(book, page)),
+        Ok(()) => Ok(print_years::lay_years(&Book::of(book), page)),
         Err(Stop::Refused(refusal)) => Ok(print_refusal::lay_refusal(page, 0, refusal)),
         Err(Stop::Failed(error)) => Err(error),
     }

@@ -18,7 +18,7 @@ pub loop-device-init : goal.loop-device-init
 loop-device-init c = (omega arith, omega arith, c.of_grams-destroyed.ensures ∙ ap methane (sum_none _))
 
 pub destroyed-requires : goal.destroyed-requires
-destroyed-requires c = (c.requires.valid, c.requires.month_within, omega arith)
+destroyed-requires c = (c.requires.month_within, omega arith)
 
 pub plus-destroyed-requires : goal.plus-destroyed-requires
 plus-destroyed-requires c =
@@ -30,8 +30,8 @@ plus-destroyed-requires c =
     (omega (
       arith,
       sum_most (λ device. amount_of (destroyed_of book month device)) (10 ^ 12) (loop.device - 1)
-          (λ device low high. destroyed_most_lem book c.requires.valid month device c.requires.month_within (omega arith)),
-      destroyed_most_lem book c.requires.valid month loop.device c.requires.month_within (omega arith),
+          (λ device low high. destroyed_most_lem book c.known.ensures month device c.requires.month_within (omega arith)),
+      destroyed_most_lem book c.known.ensures month loop.device c.requires.month_within (omega arith),
     ))
 
 pub overflow_step-device : goal.overflow_step-device

@@ -14,9 +14,9 @@ use Rattle.year_heads.proofs.of_category.Goals as goal
 pub loop-month-init : goal.loop-month-init
 loop-month-init c = (omega arith, omega arith, c.months_before-before.ensures, sum_none _)
 
-pub head-heads-requires-clause-within : goal.head-heads-requires-clause-within
-head-heads-requires-clause-within c =
-    (c.requires.category_within, omega (arith, c.loop-month.invariant.2, c.requires.in_period.high))
+pub head-heads-requires : goal.head-heads-requires
+head-heads-requires c =
+    record { within = (c.requires.category_within, omega (arith, c.loop-month.invariant.2, c.requires.in_period.high)) }
 
 pub overflow_add-heads : goal.overflow_add-heads
 overflow_add-heads c =
@@ -29,9 +29,9 @@ overflow_add-heads c =
       arith,
       loop.invariant.3,
       sum_most each 100000 (loop.month - 1)
-          (λ m low high. head_most book c.requires.valid c.args.category (before + m) c.requires.category_within (omega (arith, c.requires.in_period.high))),
+          (λ m low high. head_most book c.known.ensures c.args.category (before + m) c.requires.category_within (omega (arith, c.requires.in_period.high))),
       c.head-heads.ensures,
-      head_most book c.requires.valid c.args.category (c.months_before-before.result + loop.month) c.requires.category_within
+      head_most book c.known.ensures c.args.category (c.months_before-before.result + loop.month) c.requires.category_within
           (omega (arith, loop.invariant.2, c.requires.in_period.high)),
     )
 

@@ -12,7 +12,7 @@ loop-earlier-init c = (omega arith, c.requires.in_period.low, none_handed _ c.em
 pub standings_after-handed_on-requires : goal.standings_after-handed_on-requires
 standings_after-handed_on-requires c =
     let loop = c.loop-earlier in
-    record { valid = c.requires.valid; in_period = record { low = omega arith; high = omega (arith, c.requires.in_period.high) }; standings = loop.invariant.2 }
+    record { in_period = record { low = omega arith; high = omega (arith, c.requires.in_period.high) }; standings = loop.invariant.2 }
 
 pub loop-earlier-preserved : goal.loop-earlier-preserved
 loop-earlier-preserved c =

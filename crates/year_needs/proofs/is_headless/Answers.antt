@@ -19,4 +19,4 @@ returns c =
     any_found flagged categories c.any.result
     (cases_from_any _ _ _ (λ category. flagged category ≡ true) (λ category. flagged category ≡ false) c.any.ensures.ran
     (YieldsList-from_range 1 (categories + 1) categories refl refl) (λ x q k. search (rules, tests)) (λ x q k. search (rules, tests))) ∙
-    headless_flagged c.args.book.now c.args.month c.requires.lined c.requires.valid
+    headless_flagged c.args.book.now c.args.month c.requires.lined c.known.ensures

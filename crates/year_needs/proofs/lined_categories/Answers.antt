@@ -15,5 +15,5 @@ loop-line-init c = (omega arith, lined_none _)
 pub loop-line-preserved : goal.loop-line-preserved
 loop-line-preserved c =
     let small : c.unwrap_or-category.result ≤ categories =
-    rw (c.unwrap_or-category.ensures ∙ ap amount_of c.category.ensures) (category_amount c.args.book.now c.requires c.loop-line.line (omega arith)) in
+    rw (c.unwrap_or-category.ensures ∙ ap amount_of c.category.ensures) (category_amount c.args.book.now c.known.ensures c.loop-line.line (omega arith)) in
     (omega arith, lined_more c.args.book.now c.loop-line.line (omega arith) c.category.ensures c.unwrap_or-category.ensures small c.loop-line.invariant.1)

@@ -12,9 +12,6 @@ use Rattle.year_shares.specs.Shares.{over_of, shares_of, whole_share}
 use Rattle.year_shares.proofs.Sharing.{shared_all, over_is, fits_is}
 use Rattle.year_shares.proofs.fit.Goals as goal
 
-pub shares-shares-requires : goal.shares-shares-requires
-shares-shares-requires c = c.requires
-
 pub loop-category-init : goal.loop-category-init
 loop-category-init c = (omega arith, omega arith, begins categories _)
 

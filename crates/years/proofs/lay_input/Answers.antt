@@ -21,7 +21,7 @@ lay_refusal-requires g c =
 
 pub returns-in-Ok : goal.returns-in-Ok
 unfolding ending_text
-returns-in-Ok g c = laid c.empty.ensures c.in-Ok.ensures.comes refl tt c.lay_years.ensures
+returns-in-Ok g c = laid c.empty.ensures c.in-Ok.ensures.comes refl tt (rw c.of.ensures at c.lay_years.ensures)
 
 pub returns-in-Err-Refused : goal.returns-in-Err-Refused
 unfolding ending_text

@@ -21,27 +21,27 @@ returns-in_default c =
 pub months_of_line-months-requires : goal.months_of_line-months-requires
 months_of_line-months-requires c =
     let is_anaerobic : system_of c.args.book.now c.args.line ≡ Some anaerobic = stands c.args.book.now c.args.line c.system.ensures c.in-Some.is c.if-system-eq-ANAEROBIC.true in
-    record { valid = c.requires.valid; in_period = c.requires.in_period; line_of_book = c.requires.line_of_book; is_anaerobic = is_anaerobic; figures = c.requires.figures }
+    record { in_period = c.requires.in_period; line_of_book = c.requires.line_of_book; is_anaerobic = is_anaerobic; figures = c.requires.figures }
 
 pub run-totals-requires : goal.run-totals-requires
 run-totals-requires c =
     let is_anaerobic : system_of c.args.book.now c.args.line ≡ Some anaerobic = stands c.args.book.now c.args.line c.system.ensures c.in-Some.is c.if-system-eq-ANAEROBIC.true in
-    months_fit c.args.book.now c.requires.valid c.args.line c.requires.line_of_book c.args.year c.requires.in_period
+    months_fit c.args.book.now c.known.ensures c.args.line c.requires.line_of_book c.args.year c.requires.in_period
     c.months_of_line-months.ensures
     (c.requires.handed is_anaerobic)
 
 pub anaerobic-requires : goal.anaerobic-requires
 anaerobic-requires c =
     let stood : system_of c.args.book.now c.args.line ≡ Some c.in-Some.system = sym c.system.ensures ∙ c.in-Some.is in
-    let own_ranged : LineRanged c.line_at-numbers.result = ranged c.args.book.now c.requires.valid c.args.line c.requires.line_of_book stood c.line_at-numbers.ensures in
+    let own_ranged : LineRanged c.line_at-numbers.result = ranged c.args.book.now c.known.ensures c.args.line c.requires.line_of_book stood c.line_at-numbers.ensures in
     let is_anaerobic : system_of c.args.book.now c.args.line ≡ Some anaerobic = stands c.args.book.now c.args.line c.system.ensures c.in-Some.is c.if-system-eq-ANAEROBIC.true in
     let run_is : c.run-totals.result ≡
     year_of (month_at c.args.book.now c.args.line)
-    c.args.year = year_run c.args.book.now c.requires.valid c.args.line c.requires.line_of_book c.args.year c.requires.in_period
+    c.args.year = year_run c.args.book.now c.known.ensures c.args.line c.requires.line_of_book c.args.year c.requires.in_period
     c.months_of_line-months.ensures
     (c.requires.handed is_anaerobic) c.run-totals.ensures in
     let book = c.args.book.now in (
-      rw run_is (omega (arith, (year_most book c.requires.valid c.args.line c.requires.line_of_book c.args.year c.requires.in_period).degraded)),
+      rw run_is (omega (arith, (year_most book c.known.ensures c.args.line c.requires.line_of_book c.args.year c.requires.in_period).degraded)),
       own_ranged.b0,
     )
 
@@ -50,7 +50,7 @@ returns-then-system-eq-ANAEROBIC c =
     let is_anaerobic : system_of c.args.book.now c.args.line ≡ Some anaerobic = stands c.args.book.now c.args.line c.system.ensures c.in-Some.is c.if-system-eq-ANAEROBIC.true in
     let run_is : c.run-totals.result ≡
     year_of (month_at c.args.book.now c.args.line)
-    c.args.year = year_run c.args.book.now c.requires.valid c.args.line c.requires.line_of_book c.args.year c.requires.in_period
+    c.args.year = year_run c.args.book.now c.known.ensures c.args.line c.requires.line_of_book c.args.year c.requires.in_period
     c.months_of_line-months.ensures
     (c.requires.handed is_anaerobic) c.run-totals.ensures in
     anaerobic_is c.args.book.now c.args.year c.args.line c.system.ensures
@@ -59,8 +59,8 @@ returns-then-system-eq-ANAEROBIC c =
 pub own_heads-requires : goal.own_heads-requires
 own_heads-requires c =
     let stood : system_of c.args.book.now c.args.line ≡ Some c.in-Some.system = sym c.system.ensures ∙ c.in-Some.is in
-    let own_ranged : LineRanged c.line_at-numbers.result = ranged c.args.book.now c.requires.valid c.args.line c.requires.line_of_book stood c.line_at-numbers.ensures in (
-      of_category c.args.book.now c.requires.valid c.args.line c.requires.line_of_book stood c.line_at-numbers.ensures,
+    let own_ranged : LineRanged c.line_at-numbers.result = ranged c.args.book.now c.known.ensures c.args.line c.requires.line_of_book stood c.line_at-numbers.ensures in (
+      of_category c.args.book.now c.known.ensures c.args.line c.requires.line_of_book stood c.line_at-numbers.ensures,
       own_ranged.category,
       c.requires.figures.heads.long,
     )
@@ -68,10 +68,10 @@ own_heads-requires c =
 pub other-requires : goal.other-requires
 other-requires c =
     let stood : system_of c.args.book.now c.args.line ≡ Some c.in-Some.system = sym c.system.ensures ∙ c.in-Some.is in
-    let own_ranged : LineRanged c.line_at-numbers.result = ranged c.args.book.now c.requires.valid c.args.line c.requires.line_of_book stood c.line_at-numbers.ensures in
+    let own_ranged : LineRanged c.line_at-numbers.result = ranged c.args.book.now c.known.ensures c.args.line c.requires.line_of_book stood c.line_at-numbers.ensures in
     let r = own_ranged in record {
       in_ranges = (
-        few c.args.book.now c.requires.valid c.args.line c.requires.line_of_book stood c.line_at-numbers.ensures c.args.year
+        few c.args.book.now c.known.ensures c.args.line c.requires.line_of_book stood c.line_at-numbers.ensures c.args.year
             c.requires.in_period c.requires.figures.heads c.own_heads.ensures,
         r.solids,
         r.mass,
@@ -86,6 +86,6 @@ returns c =
     let book = c.args.book.now in
     other_is book c.args.year c.args.line c.system.ensures c.in-Some.is
     c.line_at-numbers.ensures c.if-system-eq-ANAEROBIC.false
-    (summed book c.requires.valid c.args.line c.requires.line_of_book stood c.line_at-numbers.ensures c.args.year c.requires.in_period
+    (summed book c.known.ensures c.args.line c.requires.line_of_book stood c.line_at-numbers.ensures c.args.year c.requires.in_period
     c.requires.figures.heads c.own_heads.ensures)
     c.other.ensures

@@ -15,8 +15,8 @@ own_heads-heads-requires c =
     let book = c.args.book.now in
     let stands = c.requires.is_anaerobic in
     let read = c.line_at-numbers.ensures in (
-      of_category book c.requires.valid c.args.line c.requires.line_of_book stands read,
-      (ranged book c.requires.valid c.args.line c.requires.line_of_book stands read).category,
+      of_category book c.known.ensures c.args.line c.requires.line_of_book stands read,
+      (ranged book c.known.ensures c.args.line c.requires.line_of_book stands read).category,
       c.requires.figures.heads.long,
     )
 
@@ -25,9 +25,9 @@ entered-entered-requires c =
     let book = c.args.book.now in
     let stands = c.requires.is_anaerobic in
     let read = c.line_at-numbers.ensures in
-    let r = ranged book c.requires.valid c.args.line c.requires.line_of_book stands read in record {
+    let r = ranged book c.known.ensures c.args.line c.requires.line_of_book stands read in record {
       in_ranges = (
-        few book c.requires.valid c.args.line c.requires.line_of_book stands read c.args.year c.requires.in_period c.requires.figures.heads
+        few book c.known.ensures c.args.line c.requires.line_of_book stands read c.args.year c.requires.in_period c.requires.figures.heads
             c.own_heads-heads.ensures,
         r.solids,
         r.mass,
@@ -43,7 +43,7 @@ loop-passed-preserved c =
     let loop = c.loop-passed in
     let inside : loop.passed < months_in_year = omega arith in
     let heads_are =
-    summed book c.requires.valid c.args.line c.requires.line_of_book c.requires.is_anaerobic read c.args.year c.requires.in_period
+    summed book c.known.ensures c.args.line c.requires.line_of_book c.requires.is_anaerobic read c.args.year c.requires.in_period
     c.requires.figures.heads c.own_heads-heads.ensures in
     array_more no_month _ _ _ loop.month-items loop.passed _ inside
     (month_is book c.args.line c.args.year c.requires.in_period.low read heads_are c.months_before-before.ensures loop.passed inside
