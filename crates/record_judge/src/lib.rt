@@ -1,9 +1,9 @@
 // A record alone: its mark, its zero bytes and its fields; and what it does, where nothing is wrong with them.
-#![tactic(auto, unfolding(record_table::specs::Slot::count, record_table::specs::Slot::total, record_table::specs::Slot::slot_of, record_fields::specs::Entry::in_range, record_fields::specs::Entry::outside_at, crate::specs::Record::nonzero_in, crate::specs::Record::outside_in, crate::specs::Record::key_in, crate::specs::Record::key_of, crate::specs::Record::verdict, crate::specs::Record::judged_as, crate::specs::Keyed::key_outside, crate::specs::Keyed::keyed, crate::specs::Keyed::livestock_outside, record_defaults::specs::Tables::livestock_of, crate::specs::Defaults::is_defaults))]
+#![tactic(auto, unfolding(record_table::specs::Slot::count, record_table::specs::Slot::total, record_table::specs::Slot::slot_of, record_fields::specs::Entry::in_range, record_fields::specs::Entry::outside_at, crate::specs::Record::nonzero_in, crate::specs::Record::outside_in, crate::specs::Record::key_in, crate::specs::Record::key_of, crate::specs::Record::verdict, crate::specs::Record::judged_as, crate::specs::Keyed::key_outside, crate::specs::Keyed::keyed, crate::specs::Keyed::livestock_outside, crate::specs::Defaults::is_defaults))]
 
 pub mod rows;
 
-ghost use Rattle.std.specs.Prelude.{◌≡◌, cond, ◌&&◌, ◌+◌, ◌^◌, ◌≤◌, ◌<◌, eqb, leb, pos, neg_ℤ, drop, slice_index_or};
+ghost use Rattle.std.specs.Prelude.{◌≡◌, cond, ◌&&◌, ◌+◌, ◌^◌, ◌≤◌, ◌<◌, eqb, leb, pos, neg_ℤ, All, length, drop};
 ghost use Rattle.std.specs.Int.Signed.{le_z};
 ghost use Rattle.record_table.specs.Table.{unless, yr, ln, hd, tp, dr, pe, mt, entries_of, record_bytes};
 ghost use Rattle.record_fields.specs.Entry.{outside_at};
@@ -18,12 +18,10 @@ use record_fields::Field;
 use record_table::{Key, RECORD};
 use refusals::{Reason, Refusal};
 
-// The width of a mark, and the offsets of the key's bytes after it.
+// The width of a mark, and the offset of the key after it.
 const MARK: usize = 2;
 
-const FIRST_KEY: usize = 2;
-
-const SECOND_KEY: usize = 3;
+const KEY_AT: usize = MARK;
 
 // The system that is anaerobic.
 const ANAEROBIC: u8 = 0;
@@ -78,7 +76,7 @@ fn judge_ln(posted: &[u8; RECORD]) -> Result<Change, Refusal>
 {
     let first = record_fields::nonzero(posted, rows::LN_FIRST_ZERO);
     let zero = first.or(record_fields::nonzero(posted, rows::LN_SECOND_ZERO));
-    keyed_by_one(posted, record_table::LN, zero, line_outside(posted))
+    keyed(posted, record_table::LN, zero, line_outside(posted))
 }
 
 fn line_outside(posted: &[u8; RECORD]) -> Option<usize>
@@ -99,7 +97,7 @@ fn judge_hd(posted: &[u8; RECORD]) -> Result<Change, Refusal>
 {
     let zero = record_fields::nonzero(posted, rows::HD_ZEROS);
     let head = record_fields::outside(posted, rows::HD_HEAD);
-    keyed_by_two(posted, record_table::HD, zero, head)
+    keyed(posted, record_table::HD, zero, head)
 }
 
 fn judge_tp(posted: &[u8; RECORD]) -> Result<Change, Refusal>
@@ -107,14 +105,14 @@ fn judge_tp(posted: &[u8; RECORD]) -> Result<Change, Refusal>
 {
     let first = record_fields::nonzero(posted, rows::TP_FIRST_ZERO);
     let zero = first.or(record_fields::nonzero(posted, rows::TP_LAST_ZEROS));
-    keyed_by_one(posted, record_table::TP, zero, temperature_outside(posted))
+    keyed(posted, record_table::TP, zero, temperature_outside(posted))
 }
 
 fn judge_dr(posted: &[u8; RECORD]) -> Result<Change, Refusal>
     ensures { result ≡ judged_as dr posted.now }
 {
     let zero = record_fields::nonzero(posted, rows::DR_ZEROS);
-    keyed_by_two(posted, record_table::DR, zero, None)
+    keyed(posted, record_table::DR, zero, None)
 }
 
 fn judge_pe(posted: &[u8; RECORD]) -> Result<Change, Refusal>
@@ -124,7 +122,7 @@ fn judge_pe(posted: &[u8; RECORD]) -> Result<Change, Refusal>
     let methane = record_fields::outside(posted, rows::PE_PROJECT_METHANE);
     let baseline = record_fields::outside(posted, rows::PE_BASELINE_CO2);
     let project = record_fields::outside(posted, rows::PE_PROJECT_CO2);
-    keyed_by_one(
+    keyed(
         posted,
         record_table::PE,
         zero,
@@ -137,7 +135,7 @@ fn judge_mt(posted: &[u8; RECORD]) -> Result<Change, Refusal>
 {
     let zero = record_fields::nonzero(posted, rows::MT_ZEROS);
     let destroyed = record_fields::outside(posted, rows::MT_DESTROYED);
-    keyed_by_two(posted, record_table::MT, zero, destroyed)
+    keyed(posted, record_table::MT, zero, destroyed)
 }
 
 // A defaults line has LN's key (02, (i)).
@@ -146,7 +144,7 @@ fn judge_ld(posted: &[u8; RECORD]) -> Result<Change, Refusal>
 {
     let first = record_fields::nonzero(posted, rows::LD_FIRST_ZERO);
     let zero = first.or(record_fields::nonzero(posted, rows::LD_LAST_ZEROS));
-    keyed_by_one(posted, record_table::LN, zero, defaults_outside(posted))
+    keyed(posted, record_table::LN, zero, defaults_outside(posted))
 }
 
 fn defaults_outside(posted: &[u8; RECORD]) -> Option<usize>
@@ -179,45 +177,25 @@ fn state_field(livestock: Livestock) -> Field
     rows::LD_NO_STATE
 }
 
-// A record whose key has one byte, or two, each from 1 on: by the place of a zero byte that is not 0, and that of a field after the key that is outside its
+// A record by its key, each byte of which counts from 1: by the place of a zero byte that is not 0, and that of a field after the key that is outside its
 // range.
-// Two functions, and not one over the length of the key: that one would gather the bytes and the wrong place in a loop over arrays, and is no plainer.
-fn keyed_by_one(
+fn keyed<const N: usize>(
     posted: &[u8; RECORD],
-    key: Key<1>,
+    key: Key<N>,
     nonzero: Option<usize>,
     outside: Option<usize>,
 ) -> Result<Change, Refusal>
-    requires { key.first < 2 ^ 32 }
-    ensures { result ≡ keyed key.first key.most posted.now nonzero outside }
+    requires { (key.first < 2 ^ 32) × (length key.most ≤ 4) × All (λ high. high < 256) (drop 1 key.most) }
+    ensures { result ≡ keyed key.entry.first key.entry.most posted.now nonzero outside }
 {
-    let first = record_fields::outside(posted, key_field(FIRST_KEY, key.most[0]));
-    verdict_on(
-        nonzero,
-        first.or(outside),
-        record_table::slot(key, [key_byte(posted[FIRST_KEY])]),
-    )
-}
-
-fn keyed_by_two(
-    posted: &[u8; RECORD],
-    key: Key<2>,
-    nonzero: Option<usize>,
-    outside: Option<usize>,
-) -> Result<Change, Refusal>
-    requires { (key.first < 2 ^ 32) × (slice_index_or key.most 1 0 < 256) }
-    ensures { result ≡ keyed key.first key.most posted.now nonzero outside }
-{
-    let first = record_fields::outside(posted, key_field(FIRST_KEY, key.most[0]));
-    let second = record_fields::outside(posted, key_field(SECOND_KEY, key.most[1]));
-    verdict_on(
-        nonzero,
-        first.or(second.or(outside)),
-        record_table::slot(
-            key,
-            [key_byte(posted[FIRST_KEY]), key_byte(posted[SECOND_KEY])],
-        ),
-    )
+    let mut bytes = [0; N];
+    let mut wrong = outside;
+    for i in (0..N).rev() {
+        let field = key_field(KEY_AT + i, key.most[i]);
+        wrong = record_fields::outside(posted, field).or(wrong);
+        bytes[i] = key_byte(posted[KEY_AT + i]);
+    }
+    verdict_on(nonzero, wrong, record_table::slot(key, bytes))
 }
 
 // A byte of a key counts from 1.
