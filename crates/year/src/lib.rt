@@ -2,13 +2,13 @@
 #![tactic(auto)]
 
 ghost use Rattle.std.specs.Prelude.{◌≡◌};
-ghost use Rattle.year_months.specs.Asks.{InPeriod};
 ghost use Rattle.year.specs.Figures.{figures_of};
 ghost use Rattle.year.specs.Answer.{answer_of};
 
 use book::Book;
 use refusals::{Reason, Refusal};
 use units::{Co2e, Solids};
+use year_months::Year;
 
 // The years of the crediting period.
 const FIRST_YEAR: u64 = 1;
@@ -41,7 +41,7 @@ pub fn year(book: &Book<'_>, year: u64) -> Result<Figures, Refusal>
     if year < FIRST_YEAR || LAST_YEAR < year {
         return Err(Reason::NoSuchYear.at(0));
     }
-    let counted = year as usize;
+    let counted = Year::of(year as usize);
     // The paper names this form for a year without its records: its refusal leaves before any sum is taken.
     let found = year_needs::complete(book, counted);
     let Ok(()) = found else {
@@ -51,11 +51,11 @@ pub fn year(book: &Book<'_>, year: u64) -> Result<Figures, Refusal>
     Ok(figures_of(book, counted))
 }
 
-fn figures_of(book: &Book<'_>, year: usize) -> Figures
-    requires in_period { InPeriod year }
+fn figures_of(book: &Book<'_>, year: Year) -> Figures
     ensures { result ≡ figures_of book.now year }
 {
     book.known();
+    let _ = year.number();
     let sums = year_lines::sums_of(book, year);
     let operator = year_credit::operator_of(book, year);
     let net = tonnes::net(year_credit::total(sums.baseline, operator));

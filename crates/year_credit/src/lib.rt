@@ -4,13 +4,12 @@
 ghost use Rattle.std.specs.Prelude.{◌≡◌, ◌≤◌, ◌<◌, ◌^◌, pos};
 ghost use Rattle.record_table.specs.Table.{months};
 ghost use Rattle.year_months.specs.Series.{amount_of};
-ghost use Rattle.year_months.specs.Asks.{InPeriod};
 ghost use Rattle.year_credit.specs.Credit.{grams_of, destroyed_at, operator_of, modelled_of, metered_of, lesser_of, total_of};
 ghost use Rattle.year_credit.specs.Asks.{sums_most, OperatorFits};
 
 use book::Book;
 use units::{Co2e, Methane};
-use year_months::MONTHS_IN_YEAR;
+use year_months::{MONTHS_IN_YEAR, Year};
 
 // PE counts kilograms.
 const KILOGRAM: u64 = 1_000;
@@ -26,12 +25,12 @@ pub struct Operator {
 }
 
 // What the operator entered for the year, its twelve months together.
-pub fn operator_of(book: &Book<'_>, year: usize) -> Operator
-    requires in_period { InPeriod year }
+pub fn operator_of(book: &Book<'_>, year: Year) -> Operator
     ensures { result ≡ operator_of book.now year }
 {
     book.known();
-    let before = year_months::months_before(year);
+    let _ = year.number();
+    let before = year.months_before();
     let mut project_methane = Co2e::of_grams(0);
     let mut baseline_co2 = Co2e::of_grams(0);
     let mut project_co2 = Co2e::of_grams(0);

@@ -3,18 +3,16 @@
 
 ghost use Rattle.std.specs.Prelude.{◌≡◌, ◌≤◌};
 ghost use Rattle.record_table.specs.Table.{categories, months};
-ghost use Rattle.year_months.specs.Asks.{InPeriod};
 ghost use Rattle.year_heads.specs.Heads.{head_at, heads_of};
 ghost use Rattle.year_heads.specs.Asks.{HoldsHeads};
 
 use book::Book;
 use record_table::CATEGORIES;
-use year_months::MONTHS_IN_YEAR;
+use year_months::{MONTHS_IN_YEAR, Year};
 
 // The sum of the year's twelve heads of each category, first to last. All lines of a category share it.
 #[tactic(auto, using(year_months::proofs::Arrays::array_begins, year_months::proofs::Arrays::array_more, year_months::proofs::Arrays::array_full))]
-pub fn by_category(book: &Book<'_>, year: usize) -> [u64; CATEGORIES]
-    requires in_period { InPeriod year }
+pub fn by_category(book: &Book<'_>, year: Year) -> [u64; CATEGORIES]
     ensures { HoldsHeads book.now year result }
 {
     let mut heads = [0u64; CATEGORIES];
@@ -24,13 +22,13 @@ pub fn by_category(book: &Book<'_>, year: usize) -> [u64; CATEGORIES]
     heads
 }
 
-fn of_category(book: &Book<'_>, year: usize, category: usize) -> u64
-    requires in_period { InPeriod year }
+fn of_category(book: &Book<'_>, year: Year, category: usize) -> u64
     requires category_within { category ≤ categories }
     ensures { result ≡ heads_of book.now year category }
 {
     book.known();
-    let before = year_months::months_before(year);
+    let _ = year.number();
+    let before = year.months_before();
     let mut heads = 0;
     for month in 1..=MONTHS_IN_YEAR {
         heads += head(book, category, before + month);

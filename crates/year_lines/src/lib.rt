@@ -8,7 +8,7 @@ ghost use Rattle.lagoon_month.specs.declared.Month.{Month};
 ghost use Rattle.lagoon_run.specs.Run.{no_month};
 ghost use Rattle.record_table.specs.Table.{lines, categories};
 ghost use Rattle.book_herd.specs.Herd.{system_of};
-ghost use Rattle.year_months.specs.Asks.{InPeriod, HoldsYear};
+ghost use Rattle.year_months.specs.Asks.{HoldsYear};
 ghost use Rattle.year_lines.specs.Lines.{anaerobic, month_at, other_of, line_in, all, sums_of};
 ghost use Rattle.year_lines.specs.Asks.{Handed, HoldsFigures, Standings};
 
@@ -17,7 +17,7 @@ use book_herd::Line;
 use lagoon_month::{Month, Standing};
 use record_table::CATEGORIES;
 use units::Solids;
-use year_months::MONTHS_IN_YEAR;
+use year_months::{MONTHS_IN_YEAR, Year};
 use year_sums::Sums;
 
 const LINES: usize = record_table::LINES;
@@ -36,23 +36,21 @@ const CONVERSION_PARTS: u64 = 10_000;
 
 // All lines of a year. The standing that each has from the years before is worked out first, from the first
 // month.
-pub fn sums_of(book: &Book<'_>, year: usize) -> Sums
-    requires in_period { InPeriod year }
+pub fn sums_of(book: &Book<'_>, year: Year) -> Sums
     ensures { result ≡ sums_of book.now year all }
 {
     sums_from(book, year, standings_before(book, year))
 }
 
 // The standing that each line has from the years before: one after the other, from empty lagoons.
-fn standings_before(book: &Book<'_>, year: usize) -> [Standing; LINES]
-    requires in_period { InPeriod year }
+fn standings_before(book: &Book<'_>, year: Year) -> [Standing; LINES]
     ensures { Standings book.now (year - 1) result }
 {
     let empty = Standing::empty();
     let mut standings = [empty; LINES];
-    for earlier in 1..year {
+    for earlier in 1..year.number() {
         // The prover's walk doesn't cover a call's result laid in a variable that holds an array.
-        let handed_on = standings_after(book, earlier, standings);
+        let handed_on = standings_after(book, Year::of(earlier), standings);
         standings = handed_on;
     }
     standings
@@ -60,8 +58,7 @@ fn standings_before(book: &Book<'_>, year: usize) -> [Standing; LINES]
 
 // The standing that each line hands on from an earlier year: nothing else is asked of it, and its sums are
 // left out.
-fn standings_after(book: &Book<'_>, earlier: usize, before: [Standing; LINES]) -> [Standing; LINES]
-    requires in_period { InPeriod earlier }
+fn standings_after(book: &Book<'_>, earlier: Year, before: [Standing; LINES]) -> [Standing; LINES]
     requires standings { Standings book.now (earlier - 1) before }
     ensures { Standings book.now earlier result }
 {
@@ -75,12 +72,12 @@ fn standings_after(book: &Book<'_>, earlier: usize, before: [Standing; LINES]) -
 }
 
 // All lines, each from the standing that the years before handed on.
-fn sums_from(book: &Book<'_>, year: usize, before: [Standing; LINES]) -> Sums
-    requires in_period { InPeriod year }
+fn sums_from(book: &Book<'_>, year: Year, before: [Standing; LINES]) -> Sums
     requires standings { Standings book.now (year - 1) before }
     ensures { result ≡ sums_of book.now year all }
 {
     book.known();
+    let _ = year.number();
     let figures = YearFigures::of(book, year);
     let mut sums = Sums::nothing();
     for line in 1..=LINES {
@@ -100,8 +97,7 @@ struct YearFigures {
 }
 
 impl YearFigures {
-    fn of(book: &Book<'_>, year: usize) -> Self
-        requires in_period { InPeriod year }
+    fn of(book: &Book<'_>, year: Year) -> Self
         ensures { HoldsFigures book.now year result }
     {
         YearFigures {
@@ -113,14 +109,14 @@ impl YearFigures {
 
     // What one line hands on. A line of another system than the anaerobic has no standing: the one that it
     // is given is handed on as it is, and nothing reads it.
-    fn line_hands_on(&self, book: &Book<'_>, year: usize, line: usize, from: Standing) -> Standing
-        requires in_period { InPeriod year }
+    fn line_hands_on(&self, book: &Book<'_>, year: Year, line: usize, from: Standing) -> Standing
         requires line_of_book { line ≤ lines }
         requires handed { Handed book.now (year - 1) line from }
         requires figures { HoldsFigures book.now year self.now }
         ensures { Handed book.now year line result }
     {
         book.known();
+        let _ = year.number();
         let Some(system) = book_herd::system(book, line) else {
             return from;
         };
@@ -132,14 +128,14 @@ impl YearFigures {
     }
 
     // One line, by its system.
-    fn line_in(&self, book: &Book<'_>, year: usize, line: usize, from: Standing) -> Sums
-        requires in_period { InPeriod year }
+    fn line_in(&self, book: &Book<'_>, year: Year, line: usize, from: Standing) -> Sums
         requires line_of_book { line ≤ lines }
         requires handed { Handed book.now (year - 1) line from }
         requires figures { HoldsFigures book.now year self.now }
         ensures { result ≡ line_in book.now year line }
     {
         book.known();
+        let _ = year.number();
         let Some(system) = book_herd::system(book, line) else {
             return Sums::nothing();
         };
@@ -154,17 +150,17 @@ impl YearFigures {
 
     // The months of an anaerobic line in the year, first to last.
     #[tactic(auto, using(year_months::proofs::Arrays::array_begins, year_months::proofs::Arrays::array_more, year_months::proofs::Arrays::array_full))]
-    fn months_of_line(&self, book: &Book<'_>, year: usize, line: usize) -> [Month; MONTHS_IN_YEAR]
-        requires in_period { InPeriod year }
+    fn months_of_line(&self, book: &Book<'_>, year: Year, line: usize) -> [Month; MONTHS_IN_YEAR]
         requires line_of_book { line ≤ lines }
         requires is_anaerobic { system_of book.now line ≡ Some anaerobic }
         requires figures { HoldsFigures book.now year self.now }
         ensures { HoldsYear Month no_month year (month_at book.now line) result }
     {
         book.known();
+        let _ = year.number();
         let numbers = book_herd::line_at(book, line);
         let heads = self.own_heads(numbers);
-        let before = year_months::months_before(year);
+        let before = year.months_before();
         let none = Month {
             entered: Solids::of_grams(0),
             factor: 0,

@@ -7,10 +7,18 @@ use lib.ListN.{get_or}
 use lib.Seq.{ext_get_or}
 use Rattle.laws.proofs.Determined.{OneAnswer, one}
 use Rattle.year_months.specs.Asks.{Holds}
-use Rattle.year_months.proofs.months_before.Reads as MonthsBefore
-use Rattle.year_months.proofs.months_through.Reads as MonthsThrough
+use Rattle.year_months.proofs.period.Year.of.Reads as YearOf
+use Rattle.year_months.proofs.period.Year.number.Reads as YearNumber
+use Rattle.year_months.proofs.period.Year.months_before.Reads as MonthsBefore
+use Rattle.year_months.proofs.period.Year.months_through.Reads as MonthsThrough
 use Rattle.year_months.proofs.days.Reads as Days
 use Rattle.year_months.proofs.factors.Reads as Factors
+
+pub year_of_one : OneAnswer YearOf.Learnt
+year_of_one κ a x y s t = one
+
+pub year_number_one : OneAnswer YearNumber.Learnt
+year_number_one κ a x y s t p q = one p.0 q.0
 
 pub months_before_one : OneAnswer MonthsBefore.Learnt
 months_before_one κ a x y s t = one

@@ -4,38 +4,28 @@
 ghost use Rattle.std.specs.Prelude.{◌≡◌, ℕ, ◌+◌, ◌≤◌};
 ghost use Rattle.calendar.specs.Days.{months_in_year, days_of};
 ghost use Rattle.record_table.specs.Table.{months};
-ghost use Rattle.year_months.specs.Series.{months_before, months_through, days_at, factor_at, factor_by};
-ghost use Rattle.year_months.specs.Asks.{InPeriod, Holds, HoldsYear};
+ghost use Rattle.year_months.specs.Series.{days_at, factor_at, factor_by};
+ghost use Rattle.year_months.specs.Asks.{Holds, HoldsYear};
+
+mod period;
+
+pub use period::Year;
 
 use book::Book;
 
 // Twelve to a year of the crediting period, whichever month it starts with.
 pub const MONTHS_IN_YEAR: usize = 12;
 
-pub fn months_before(year: usize) -> usize
-    requires { InPeriod year }
-    ensures { result ≡ months_before year }
-{
-    MONTHS_IN_YEAR * (year - 1)
-}
-
-pub fn months_through(year: usize) -> usize
-    requires { InPeriod year }
-    ensures { result ≡ months_through year }
-{
-    MONTHS_IN_YEAR * year
-}
-
 // The days of the year's months, first to last.
 #[tactic(auto, using(crate::proofs::Ranges::first_year_most, crate::proofs::Ranges::first_month_most), unfolding(crate::specs::Series::days_at))]
-pub fn days(book: &Book<'_>, year: usize) -> [u64; MONTHS_IN_YEAR]
-    requires in_period { InPeriod year }
+pub fn days(book: &Book<'_>, year: Year) -> [u64; MONTHS_IN_YEAR]
     ensures { HoldsYear ℕ 0 year (days_at book.now) result }
 {
     book.known();
+    let _ = year.number();
     let first_year = book_slots::first_year(book).unwrap_or(0);
     let first_month = book_slots::first_month(book).unwrap_or(0);
-    lengths(first_year, first_month, months_before(year))
+    lengths(first_year, first_month, year.months_before())
 }
 
 #[tactic(auto, using(crate::proofs::Arrays::array_begins, crate::proofs::Arrays::array_more, crate::proofs::Arrays::array_full))]
@@ -55,11 +45,11 @@ fn lengths(first_year: u64, first_month: u64, before: usize) -> [u64; MONTHS_IN_
 
 // The factors of the year's months, first to last; 0 where the temperature is not known.
 #[tactic(auto, using(crate::proofs::Arrays::array_begins, crate::proofs::Arrays::array_more, crate::proofs::Arrays::array_full), unfolding(crate::specs::Series::factor_at))]
-pub fn factors(book: &Book<'_>, year: usize) -> [u64; MONTHS_IN_YEAR]
-    requires in_period { InPeriod year }
+pub fn factors(book: &Book<'_>, year: Year) -> [u64; MONTHS_IN_YEAR]
     ensures { HoldsYear ℕ 0 year (factor_at book.now) result }
 {
-    let before = months_before(year);
+    let _ = year.number();
+    let before = year.months_before();
     let mut factors = [0u64; MONTHS_IN_YEAR];
     for (passed, factor) in factors.iter_mut().enumerate() {
         *factor = factor_by(book_slots::temperature(book, before + passed + 1));

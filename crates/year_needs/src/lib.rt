@@ -3,12 +3,12 @@
 
 ghost use Rattle.std.specs.Prelude.{◌≡◌, ◌&&◌, ◌≤◌, Some};
 ghost use Rattle.record_table.specs.Table.{lines, categories, months};
-ghost use Rattle.year_months.specs.Asks.{InPeriod};
 ghost use Rattle.year_needs.specs.Complete.{any_line, uncounted, headless, lacks, lacking_month, complete_of};
 ghost use Rattle.year_needs.specs.Asks.{Lined};
 
 use book::Book;
 use refusals::{Reason, Refusal};
+use year_months::Year;
 
 // Room for a flag at each category number. A line that is not in the book has number 0.
 const CATEGORY_FLAGS: usize = record_table::CATEGORIES + 1;
@@ -16,8 +16,7 @@ const CATEGORY_FLAGS: usize = record_table::CATEGORIES + 1;
 // Whether a year has the records that it needs. YR and a line are looked at first, and then each month
 // through the year's end.
 #[tactic(auto, unfolding(crate::specs::Complete::complete_of, crate::specs::Complete::lacking_month))]
-pub fn complete(book: &Book<'_>, year: usize) -> Result<(), Refusal>
-    requires in_period { InPeriod year }
+pub fn complete(book: &Book<'_>, year: Year) -> Result<(), Refusal>
     ensures { result ≡ complete_of book.now year }
 {
     if book_slots::first_year(book).is_none() || !any_line(book) {
@@ -50,25 +49,24 @@ fn lined_categories(book: &Book<'_>) -> [bool; CATEGORY_FLAGS]
 }
 
 // The lowest month through the year's end that lacks a record.
-fn first_lacking(book: &Book<'_>, year: usize, lined: &[bool]) -> Option<usize>
-    requires in_period { InPeriod year }
+fn first_lacking(book: &Book<'_>, year: Year, lined: &[bool]) -> Option<usize>
     requires lined { Lined book.now lines lined.now }
     ensures { result ≡ lacking_month book.now year }
 {
-    let past = year_months::months_through(year) + 1;
+    let _ = year.number();
+    let past = year.months_through() + 1;
     (1..past).find(|month| is_lacking(book, year, *month, lined))
 }
 
 #[tactic(auto, unfolding(crate::specs::Complete::lacks))]
-fn is_lacking(book: &Book<'_>, year: usize, month: usize, lined: &[bool]) -> bool
-    requires in_period { InPeriod year }
+fn is_lacking(book: &Book<'_>, year: Year, month: usize, lined: &[bool]) -> bool
     requires month_within { month ≤ months }
     requires lined { Lined book.now lines lined.now }
     ensures { result ≡ lacks book.now year month }
 {
     book_slots::temperature(book, month).is_none()
         || is_headless(book, month, lined)
-        || year_months::months_before(year) < month
+        || year.months_before() < month
             && book_slots::project_methane(book, month).is_none()
 }
 

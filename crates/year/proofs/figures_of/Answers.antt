@@ -23,18 +23,18 @@ operator_small : (book : List ℕ) (year : ℕ) {operator : Operator} → Valid 
 operator_small book year valid period is = subst OperatorFits (sym is) (operator_fits _ (operator_most book valid year period))
 
 pub metered-requires : goal.metered-requires
-metered-requires c = operator_small c.args.book.now c.args.year c.known.ensures c.requires.in_period c.operator_of-operator.ensures
+metered-requires c = operator_small c.args.book.now c.args.year c.known.ensures c.number.ensures.in_period c.operator_of-operator.ensures
 
 pub total-requires-clause-baseline_fits : goal.total-requires-clause-baseline_fits
 total-requires-clause-baseline_fits c =
     rw c.sums_of-sums.ensures (omega (
       arith,
-      (sums_most_lem c.args.book.now c.known.ensures c.args.year c.requires.in_period lines (omega arith)).baseline,
+      (sums_most_lem c.args.book.now c.known.ensures c.args.year c.number.ensures.in_period lines (omega arith)).baseline,
     ))
 
 pub total-requires-clause-operator_fits : goal.total-requires-clause-operator_fits
 total-requires-clause-operator_fits c =
-    operator_small c.args.book.now c.args.year c.known.ensures c.requires.in_period c.operator_of-operator.ensures
+    operator_small c.args.book.now c.args.year c.known.ensures c.number.ensures.in_period c.operator_of-operator.ensures
 
 pub returns : goal.returns
 returns c =

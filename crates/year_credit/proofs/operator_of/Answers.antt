@@ -13,9 +13,6 @@ use Rattle.year_credit.proofs.Bounds.{baseline_co2_small, destroyed_fits, destro
 use Rattle.year_credit.proofs.Ranges.{baseline_co2_most, project_methane_most, project_co2_most}
 use Rattle.year_credit.proofs.operator_of.Goals as goal
 
-pub months_before-before-requires : goal.months_before-before-requires
-months_before-before-requires c = c.requires.in_period
-
 pub loop-nth-init : goal.loop-nth-init
 loop-nth-init c = (
   omega arith,
@@ -28,16 +25,16 @@ loop-nth-init c = (
 )
 
 pub overflow_add-month : goal.overflow_add-month
-overflow_add-month c = omega (arith, c.loop-nth.invariant.2, c.requires.in_period.high)
+overflow_add-month c = omega (arith, c.loop-nth.invariant.2, c.number.ensures.in_period.high)
 
 pub project_methane-requires : goal.project_methane-requires
 project_methane-requires c =
-    let within : c.months_before-before.result + c.loop-nth.nth ≤ months = omega (arith, c.loop-nth.invariant.2, c.requires.in_period.high) in
+    let within : c.months_before-before.result + c.loop-nth.nth ≤ months = omega (arith, c.loop-nth.invariant.2, c.number.ensures.in_period.high) in
     within
 
 pub grams-requires : goal.grams-requires
 grams-requires c =
-    let within : c.months_before-before.result + c.loop-nth.nth ≤ months = omega (arith, c.loop-nth.invariant.2, c.requires.in_period.high) in
+    let within : c.months_before-before.result + c.loop-nth.nth ≤ months = omega (arith, c.loop-nth.invariant.2, c.number.ensures.in_period.high) in
     rw c.project_methane.ensures (project_methane_most c.args.book.now c.known.ensures _ within)
 
 pub plus-project_methane-requires : goal.plus-project_methane-requires
@@ -45,16 +42,16 @@ plus-project_methane-requires c =
     let at-is : c.months_before-before.result + c.loop-nth.nth ≡ months_before c.args.year + c.loop-nth.nth = ap (λ (k : ℕ). k + c.loop-nth.nth) c.loop-nth.invariant.2 in
     let loop = c.loop-nth in
     month_fits (project_methane_of c.args.book.now) (months_before c.args.year) loop.nth (omega arith) at-is c.project_methane.ensures c.grams.ensures
-    loop.invariant.3 (omega arith) (λ m low high. project_methane_small c.args.book.now c.known.ensures c.args.year c.requires.in_period m (omega arith))
+    loop.invariant.3 (omega arith) (λ m low high. project_methane_small c.args.book.now c.known.ensures c.args.year c.number.ensures.in_period m (omega arith))
 
 pub baseline_co2-requires : goal.baseline_co2-requires
 baseline_co2-requires c =
-    let within : c.months_before-before.result + c.loop-nth.nth ≤ months = omega (arith, c.loop-nth.invariant.2, c.requires.in_period.high) in
+    let within : c.months_before-before.result + c.loop-nth.nth ≤ months = omega (arith, c.loop-nth.invariant.2, c.number.ensures.in_period.high) in
     within
 
 pub grams-requires-in-loop-nth : goal.grams-requires-in-loop-nth
 grams-requires-in-loop-nth c =
-    let within : c.months_before-before.result + c.loop-nth.nth ≤ months = omega (arith, c.loop-nth.invariant.2, c.requires.in_period.high) in
+    let within : c.months_before-before.result + c.loop-nth.nth ≤ months = omega (arith, c.loop-nth.invariant.2, c.number.ensures.in_period.high) in
     rw c.baseline_co2.ensures (baseline_co2_most c.args.book.now c.known.ensures _ within)
 
 pub plus-baseline_co2-requires : goal.plus-baseline_co2-requires
@@ -62,16 +59,16 @@ plus-baseline_co2-requires c =
     let at-is : c.months_before-before.result + c.loop-nth.nth ≡ months_before c.args.year + c.loop-nth.nth = ap (λ (k : ℕ). k + c.loop-nth.nth) c.loop-nth.invariant.2 in
     let loop = c.loop-nth in
     month_fits (baseline_co2_of c.args.book.now) (months_before c.args.year) loop.nth (omega arith) at-is c.baseline_co2.ensures c.grams-in-loop-nth.ensures
-    loop.invariant.4 (omega arith) (λ m low high. baseline_co2_small c.args.book.now c.known.ensures c.args.year c.requires.in_period m (omega arith))
+    loop.invariant.4 (omega arith) (λ m low high. baseline_co2_small c.args.book.now c.known.ensures c.args.year c.number.ensures.in_period m (omega arith))
 
 pub project_co2-requires : goal.project_co2-requires
 project_co2-requires c =
-    let within : c.months_before-before.result + c.loop-nth.nth ≤ months = omega (arith, c.loop-nth.invariant.2, c.requires.in_period.high) in
+    let within : c.months_before-before.result + c.loop-nth.nth ≤ months = omega (arith, c.loop-nth.invariant.2, c.number.ensures.in_period.high) in
     within
 
 pub grams-requires-in-loop-nth-2 : goal.grams-requires-in-loop-nth-2
 grams-requires-in-loop-nth-2 c =
-    let within : c.months_before-before.result + c.loop-nth.nth ≤ months = omega (arith, c.loop-nth.invariant.2, c.requires.in_period.high) in
+    let within : c.months_before-before.result + c.loop-nth.nth ≤ months = omega (arith, c.loop-nth.invariant.2, c.number.ensures.in_period.high) in
     rw c.project_co2.ensures (project_co2_most c.args.book.now c.known.ensures _ within)
 
 pub plus-project_co2-requires : goal.plus-project_co2-requires
@@ -79,18 +76,18 @@ plus-project_co2-requires c =
     let at-is : c.months_before-before.result + c.loop-nth.nth ≡ months_before c.args.year + c.loop-nth.nth = ap (λ (k : ℕ). k + c.loop-nth.nth) c.loop-nth.invariant.2 in
     let loop = c.loop-nth in
     month_fits (project_co2_of c.args.book.now) (months_before c.args.year) loop.nth (omega arith) at-is c.project_co2.ensures c.grams-in-loop-nth-2.ensures
-    loop.invariant.5 (omega arith) (λ m low high. project_co2_small c.args.book.now c.known.ensures c.args.year c.requires.in_period m (omega arith))
+    loop.invariant.5 (omega arith) (λ m low high. project_co2_small c.args.book.now c.known.ensures c.args.year c.number.ensures.in_period m (omega arith))
 
 pub destroyed_in-requires : goal.destroyed_in-requires
 destroyed_in-requires c =
-    let within : c.months_before-before.result + c.loop-nth.nth ≤ months = omega (arith, c.loop-nth.invariant.2, c.requires.in_period.high) in
+    let within : c.months_before-before.result + c.loop-nth.nth ≤ months = omega (arith, c.loop-nth.invariant.2, c.number.ensures.in_period.high) in
     record { month_within = within }
 
 pub plus-destroyed-requires : goal.plus-destroyed-requires
 plus-destroyed-requires c =
     let at-is : c.months_before-before.result + c.loop-nth.nth ≡ months_before c.args.year + c.loop-nth.nth = ap (λ (k : ℕ). k + c.loop-nth.nth) c.loop-nth.invariant.2 in
     let loop = c.loop-nth in
-    destroyed_fits c.args.book.now c.known.ensures c.args.year c.requires.in_period loop.nth (omega arith) (omega arith) at-is c.destroyed_in.ensures loop.invariant.6
+    destroyed_fits c.args.book.now c.known.ensures c.args.year c.number.ensures.in_period loop.nth (omega arith) (omega arith) at-is c.destroyed_in.ensures loop.invariant.6
 
 pub overflow_step-nth : goal.overflow_step-nth
 overflow_step-nth c = omega arith
@@ -114,7 +111,7 @@ loop-nth-preserved c =
           c.plus-baseline_co2.ensures,
       month_more (project_co2_of book) before loop.nth (omega arith) at c.project_co2.ensures c.grams-in-loop-nth-2.ensures loop.invariant.5
           c.plus-project_co2.ensures,
-      destroyed_more book c.known.ensures c.args.year c.requires.in_period loop.nth (omega arith) (omega arith) at c.destroyed_in.ensures loop.invariant.6 c.plus-destroyed.ensures,
+      destroyed_more book c.known.ensures c.args.year c.number.ensures.in_period loop.nth (omega arith) (omega arith) at c.destroyed_in.ensures loop.invariant.6 c.plus-destroyed.ensures,
     )
 
 pub returns : goal.returns

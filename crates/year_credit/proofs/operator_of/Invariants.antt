@@ -12,11 +12,11 @@ use Rattle.year_credit.proofs.operator_of.Given as goal
 
 abbrev pub invariant-loop-nth : goal.invariant-loop-nth
 invariant-loop-nth l =
-    (1 ≤ l.nth) × (l.nth ≤ months_in_year + 1) × (l.before ≡ months_before l.year) ×
-    (l.project_methane ≡ co2e (sum (l.nth - 1) (λ m. (grams_of (project_methane_of l.book (months_before l.year + m))).0))) ×
-    (l.baseline_co2 ≡ co2e (sum (l.nth - 1) (λ m. (grams_of (baseline_co2_of l.book (months_before l.year + m))).0))) ×
-    (l.project_co2 ≡ co2e (sum (l.nth - 1) (λ m. (grams_of (project_co2_of l.book (months_before l.year + m))).0))) ×
-    (l.destroyed ≡ methane (sum (l.nth - 1) (λ m. (destroyed_at l.book (months_before l.year + m)).0)))
+    (1 ≤ l.nth) × (l.nth ≤ months_in_year + 1) × (l.before ≡ months_before l.fn.year) ×
+    (l.project_methane ≡ co2e (sum (l.nth - 1) (λ m. (grams_of (project_methane_of l.book (months_before l.fn.year + m))).0))) ×
+    (l.baseline_co2 ≡ co2e (sum (l.nth - 1) (λ m. (grams_of (baseline_co2_of l.book (months_before l.fn.year + m))).0))) ×
+    (l.project_co2 ≡ co2e (sum (l.nth - 1) (λ m. (grams_of (project_co2_of l.book (months_before l.fn.year + m))).0))) ×
+    (l.destroyed ≡ methane (sum (l.nth - 1) (λ m. (destroyed_at l.book (months_before l.fn.year + m)).0)))
 
 abbrev pub decreases-loop-nth : goal.decreases-loop-nth
 decreases-loop-nth l = months_in_year + 1 - l.nth

@@ -16,7 +16,7 @@ loop-month-init c = (omega arith, omega arith, c.months_before-before.ensures, s
 
 pub head-heads-requires : goal.head-heads-requires
 head-heads-requires c =
-    record { within = (c.requires.category_within, omega (arith, c.loop-month.invariant.2, c.requires.in_period.high)) }
+    record { within = (c.requires.category_within, omega (arith, c.loop-month.invariant.2, c.number.ensures.in_period.high)) }
 
 pub overflow_add-heads : goal.overflow_add-heads
 overflow_add-heads c =
@@ -29,10 +29,10 @@ overflow_add-heads c =
       arith,
       loop.invariant.3,
       sum_most each 100000 (loop.month - 1)
-          (λ m low high. head_most book c.known.ensures c.args.category (before + m) c.requires.category_within (omega (arith, c.requires.in_period.high))),
+          (λ m low high. head_most book c.known.ensures c.args.category (before + m) c.requires.category_within (omega (arith, c.number.ensures.in_period.high))),
       c.head-heads.ensures,
       head_most book c.known.ensures c.args.category (c.months_before-before.result + loop.month) c.requires.category_within
-          (omega (arith, loop.invariant.2, c.requires.in_period.high)),
+          (omega (arith, loop.invariant.2, c.number.ensures.in_period.high)),
     )
 
 pub loop-month-preserved : goal.loop-month-preserved

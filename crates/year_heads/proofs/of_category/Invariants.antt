@@ -10,5 +10,5 @@ use Rattle.year_heads.proofs.of_category.Given as goal
 
 abbrev pub invariant-loop-month : goal.invariant-loop-month
 invariant-loop-month l =
-    (1 ≤ l.month) × (l.month ≤ months_in_year + 1) × (l.before ≡ months_before l.year) ×
-    (l.heads ≡ sum (l.month - 1) (λ m. head_at l.book l.category (months_before l.year + m)))
+    (1 ≤ l.month) × (l.month ≤ months_in_year + 1) × (l.before ≡ months_before l.fn.year) ×
+    (l.heads ≡ sum (l.month - 1) (λ m. head_at l.book l.category (months_before l.fn.year + m)))

@@ -11,7 +11,7 @@ loop-line-init c =
 pub line_hands_on-requires : goal.line_hands_on-requires
 line_hands_on-requires c =
     let loop = c.loop-line in
-    record { in_period = c.requires.in_period; line_of_book = omega arith; handed = loop.invariant.2.left loop.line (omega arith) (omega arith); figures = c.of-figures.ensures }
+    record { line_of_book = omega arith; handed = loop.invariant.2.left loop.line (omega arith) (omega arith); figures = c.of-figures.ensures }
 
 pub loop-line-preserved : goal.loop-line-preserved
 loop-line-preserved c =

@@ -5,4 +5,4 @@ use Rattle.year_lines.specs.Asks.{Standings}
 use Rattle.year_lines.proofs.standings_before.Given as goal
 
 abbrev pub invariant-loop-earlier : goal.invariant-loop-earlier
-invariant-loop-earlier l = (1 ≤ l.earlier) × (l.earlier ≤ l.year) × Standings l.book (l.earlier - 1) l.standings
+invariant-loop-earlier l = (1 ≤ l.earlier) × (l.earlier ≤ l.fn.year) × Standings l.book (l.earlier - 1) l.standings

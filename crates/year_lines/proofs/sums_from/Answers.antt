@@ -16,13 +16,13 @@ loop-line-init c = (omega arith, omega arith, c.nothing-sums.ensures)
 pub line_in-own-requires : goal.line_in-own-requires
 line_in-own-requires c =
     let loop = c.loop-line in
-    record { in_period = c.requires.in_period; line_of_book = omega arith; handed = c.requires.standings.each loop.line (omega arith) (omega arith); figures = c.of-figures.ensures }
+    record { line_of_book = omega arith; handed = c.requires.standings.each loop.line (omega arith) (omega arith); figures = c.of-figures.ensures }
 
 pub plus-sums-requires : goal.plus-sums-requires
 plus-sums-requires c =
     let loop = c.loop-line in
     rw (loop.invariant.2, c.line_in-own.ensures)
-    (sums_fit c.args.book.now c.known.ensures c.args.year c.requires.in_period (loop.line - 1) loop.line (omega arith) (omega arith))
+    (sums_fit c.args.book.now c.known.ensures c.args.year c.number.ensures.in_period (loop.line - 1) loop.line (omega arith) (omega arith))
 
 pub loop-line-preserved : goal.loop-line-preserved
 loop-line-preserved c =

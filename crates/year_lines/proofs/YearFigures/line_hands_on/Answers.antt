@@ -15,12 +15,12 @@ returns-in_default c =
 pub months_of_line-months-requires : goal.months_of_line-months-requires
 months_of_line-months-requires c =
     let is_anaerobic : system_of c.args.book.now c.args.line ≡ Some anaerobic = stands c.args.book.now c.args.line c.system.ensures c.in-Some.is c.if-system-eq-ANAEROBIC.true in
-    record { in_period = c.requires.in_period; line_of_book = c.requires.line_of_book; is_anaerobic = is_anaerobic; figures = c.requires.figures }
+    record { line_of_book = c.requires.line_of_book; is_anaerobic = is_anaerobic; figures = c.requires.figures }
 
 pub handed_on-requires : goal.handed_on-requires
 handed_on-requires c =
     let is_anaerobic : system_of c.args.book.now c.args.line ≡ Some anaerobic = stands c.args.book.now c.args.line c.system.ensures c.in-Some.is c.if-system-eq-ANAEROBIC.true in
-    months_fit c.args.book.now c.known.ensures c.args.line c.requires.line_of_book c.args.year c.requires.in_period c.months_of_line-months.ensures
+    months_fit c.args.book.now c.known.ensures c.args.line c.requires.line_of_book c.args.year c.number.ensures.in_period c.months_of_line-months.ensures
     (c.requires.handed is_anaerobic)
 
 pub returns-then-system-eq-ANAEROBIC : goal.returns-then-system-eq-ANAEROBIC
@@ -28,9 +28,9 @@ returns-then-system-eq-ANAEROBIC c =
     let is_anaerobic : system_of c.args.book.now c.args.line ≡ Some anaerobic = stands c.args.book.now c.args.line c.system.ensures c.in-Some.is c.if-system-eq-ANAEROBIC.true in
     let book = c.args.book.now in
     let run =
-    year_run book c.known.ensures c.args.line c.requires.line_of_book c.args.year c.requires.in_period c.months_of_line-months.ensures
+    year_run book c.known.ensures c.args.line c.requires.line_of_book c.args.year c.number.ensures.in_period c.months_of_line-months.ensures
     (c.requires.handed is_anaerobic) refl in
-    λ a. c.handed_on.ensures ∙ year_handed book c.args.line c.args.year c.requires.in_period.low run a
+    λ a. c.handed_on.ensures ∙ year_handed book c.args.line c.args.year c.number.ensures.in_period.low run a
 
 pub returns : goal.returns
 returns c =

@@ -21,12 +21,12 @@ returns-in_default c =
 pub months_of_line-months-requires : goal.months_of_line-months-requires
 months_of_line-months-requires c =
     let is_anaerobic : system_of c.args.book.now c.args.line ≡ Some anaerobic = stands c.args.book.now c.args.line c.system.ensures c.in-Some.is c.if-system-eq-ANAEROBIC.true in
-    record { in_period = c.requires.in_period; line_of_book = c.requires.line_of_book; is_anaerobic = is_anaerobic; figures = c.requires.figures }
+    record { line_of_book = c.requires.line_of_book; is_anaerobic = is_anaerobic; figures = c.requires.figures }
 
 pub run-totals-requires : goal.run-totals-requires
 run-totals-requires c =
     let is_anaerobic : system_of c.args.book.now c.args.line ≡ Some anaerobic = stands c.args.book.now c.args.line c.system.ensures c.in-Some.is c.if-system-eq-ANAEROBIC.true in
-    months_fit c.args.book.now c.known.ensures c.args.line c.requires.line_of_book c.args.year c.requires.in_period
+    months_fit c.args.book.now c.known.ensures c.args.line c.requires.line_of_book c.args.year c.number.ensures.in_period
     c.months_of_line-months.ensures
     (c.requires.handed is_anaerobic)
 
@@ -37,11 +37,11 @@ anaerobic-requires c =
     let is_anaerobic : system_of c.args.book.now c.args.line ≡ Some anaerobic = stands c.args.book.now c.args.line c.system.ensures c.in-Some.is c.if-system-eq-ANAEROBIC.true in
     let run_is : c.run-totals.result ≡
     year_of (month_at c.args.book.now c.args.line)
-    c.args.year = year_run c.args.book.now c.known.ensures c.args.line c.requires.line_of_book c.args.year c.requires.in_period
+    c.args.year = year_run c.args.book.now c.known.ensures c.args.line c.requires.line_of_book c.args.year c.number.ensures.in_period
     c.months_of_line-months.ensures
     (c.requires.handed is_anaerobic) c.run-totals.ensures in
     let book = c.args.book.now in (
-      rw run_is (omega (arith, (year_most book c.known.ensures c.args.line c.requires.line_of_book c.args.year c.requires.in_period).degraded)),
+      rw run_is (omega (arith, (year_most book c.known.ensures c.args.line c.requires.line_of_book c.args.year c.number.ensures.in_period).degraded)),
       own_ranged.b0,
     )
 
@@ -50,7 +50,7 @@ returns-then-system-eq-ANAEROBIC c =
     let is_anaerobic : system_of c.args.book.now c.args.line ≡ Some anaerobic = stands c.args.book.now c.args.line c.system.ensures c.in-Some.is c.if-system-eq-ANAEROBIC.true in
     let run_is : c.run-totals.result ≡
     year_of (month_at c.args.book.now c.args.line)
-    c.args.year = year_run c.args.book.now c.known.ensures c.args.line c.requires.line_of_book c.args.year c.requires.in_period
+    c.args.year = year_run c.args.book.now c.known.ensures c.args.line c.requires.line_of_book c.args.year c.number.ensures.in_period
     c.months_of_line-months.ensures
     (c.requires.handed is_anaerobic) c.run-totals.ensures in
     anaerobic_is c.args.book.now c.args.year c.args.line c.system.ensures
@@ -72,7 +72,7 @@ other-requires c =
     let r = own_ranged in record {
       in_ranges = (
         few c.args.book.now c.known.ensures c.args.line c.requires.line_of_book stood c.line_at-numbers.ensures c.args.year
-            c.requires.in_period c.requires.figures.heads c.own_heads.ensures,
+            c.number.ensures.in_period c.requires.figures.heads c.own_heads.ensures,
         r.solids,
         r.mass,
         r.share,
@@ -86,6 +86,6 @@ returns c =
     let book = c.args.book.now in
     other_is book c.args.year c.args.line c.system.ensures c.in-Some.is
     c.line_at-numbers.ensures c.if-system-eq-ANAEROBIC.false
-    (summed book c.known.ensures c.args.line c.requires.line_of_book stood c.line_at-numbers.ensures c.args.year c.requires.in_period
+    (summed book c.known.ensures c.args.line c.requires.line_of_book stood c.line_at-numbers.ensures c.args.year c.number.ensures.in_period
     c.requires.figures.heads c.own_heads.ensures)
     c.other.ensures

@@ -27,7 +27,7 @@ entered-entered-requires c =
     let read = c.line_at-numbers.ensures in
     let r = ranged book c.known.ensures c.args.line c.requires.line_of_book stands read in record {
       in_ranges = (
-        few book c.known.ensures c.args.line c.requires.line_of_book stands read c.args.year c.requires.in_period c.requires.figures.heads
+        few book c.known.ensures c.args.line c.requires.line_of_book stands read c.args.year c.number.ensures.in_period c.requires.figures.heads
             c.own_heads-heads.ensures,
         r.solids,
         r.mass,
@@ -43,9 +43,9 @@ loop-passed-preserved c =
     let loop = c.loop-passed in
     let inside : loop.passed < months_in_year = omega arith in
     let heads_are =
-    summed book c.known.ensures c.args.line c.requires.line_of_book c.requires.is_anaerobic read c.args.year c.requires.in_period
+    summed book c.known.ensures c.args.line c.requires.line_of_book c.requires.is_anaerobic read c.args.year c.number.ensures.in_period
     c.requires.figures.heads c.own_heads-heads.ensures in
     array_more no_month _ _ _ loop.month-items loop.passed _ inside
-    (month_is book c.args.line c.args.year c.requires.in_period.low read heads_are c.months_before-before.ensures loop.passed inside
+    (month_is book c.args.line c.args.year c.number.ensures.in_period.low read heads_are c.months_before-before.ensures loop.passed inside
     c.requires.figures c.entered-entered.ensures c.drained.ensures)
     loop.invariant

@@ -1,0 +1,55 @@
+// A year of the crediting period, by its number.
+#![tactic(auto)]
+
+ghost use Rattle.std.specs.Prelude.{◌≡◌, ℕ};
+ghost use Rattle.year_months.specs.Series.{months_before, months_through};
+ghost use Rattle.year_months.specs.Asks.{InPeriod};
+
+use std::marker::Model;
+
+use crate::MONTHS_IN_YEAR;
+
+#[derive(Clone, Copy)]
+pub struct Year {
+    number: usize,
+}
+
+// In a clause a year is its number.
+impl Model for Year {
+    ghost Value = { ℕ };
+
+    ghost view = { λ y. y.number };
+
+    ghost invariant = { λ y. InPeriod y.number };
+
+    ghost inverse = { λ n. record { number = n } };
+}
+
+impl Year {
+    pub fn of(number: usize) -> Year
+        requires { InPeriod number }
+        ensures { result ≡ number }
+    {
+        Year { number }
+    }
+
+    // A function whose proof needs that the year is one of the crediting period asks for the number, which says so.
+    pub fn number(self) -> usize
+        ensures value { result ≡ self }
+        ensures in_period { InPeriod self }
+    {
+        self.number
+    }
+
+    pub fn months_before(self) -> usize
+        ensures { result ≡ months_before self }
+    {
+        MONTHS_IN_YEAR * (self.number - 1)
+    }
+
+    pub fn months_through(self) -> usize
+        ensures { result ≡ months_through self }
+    {
+        MONTHS_IN_YEAR * self.number
+    }
+}
