@@ -94,7 +94,8 @@ pub fn filled(book: &Book<'_>, slot: usize) -> bool
     requires { slot < slots }
     ensures { result ≡ not (free book.now slot) }
 {
-    book.bytes[slot * record_table::RECORD] != 0
+    let bytes = book.bytes;
+    bytes[slot * record_table::RECORD] != 0
 }
 
 // The number in a slot, filled or not: 0 where it is empty.
