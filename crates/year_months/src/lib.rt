@@ -9,9 +9,8 @@ ghost use Rattle.year_months.specs.Asks.{Holds, HoldsYear};
 
 mod period;
 
-pub use period::Year;
-
 use book::Book;
+pub use period::Year;
 
 // Twelve to a year of the crediting period, whichever month it starts with.
 pub const MONTHS_IN_YEAR: usize = 12;

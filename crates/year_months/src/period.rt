@@ -5,9 +5,8 @@ ghost use Rattle.std.specs.Prelude.{◌≡◌, ℕ};
 ghost use Rattle.year_months.specs.Series.{months_before, months_through};
 ghost use Rattle.year_months.specs.Asks.{InPeriod};
 
-use std::marker::Model;
-
 use crate::MONTHS_IN_YEAR;
+use std::marker::Model;
 
 #[derive(Clone, Copy)]
 pub struct Year {

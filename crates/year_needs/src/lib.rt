@@ -66,8 +66,7 @@ fn is_lacking(book: &Book<'_>, year: Year, month: usize, lined: &[bool]) -> bool
 {
     book_slots::temperature(book, month).is_none()
         || is_headless(book, month, lined)
-        || year.months_before() < month
-            && book_slots::project_methane(book, month).is_none()
+        || year.months_before() < month && book_slots::project_methane(book, month).is_none()
 }
 
 // Whether the category of a line has no head count in the month.
