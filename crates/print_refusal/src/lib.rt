@@ -8,6 +8,7 @@ ghost use Rattle.print_refusal.specs.Text.{refusal_text};
 use refusals::Refusal;
 
 // Lays its text from a place on, leaves every other byte of the page as it was, and returns the place after it.
+#[tactic(auto, using(crate::proofs::Lengths::refusal_length))]
 pub fn lay_refusal(page: &mut [u8], at: usize, refusal: Refusal) -> usize
     requires { at + length (refusal_text refusal) ≤ length page.old }
     ensures { Lays page.old at (refusal_text refusal) result page.new }

@@ -2,14 +2,7 @@
 use native.Mathlib.Omega.{arith}
 use Rattle.print_year.specs.Text.{heading_text}
 use Rattle.print_page.proofs.Laying.{joined}
-use Rattle.print_year.proofs.Lengths.{year_length}
 use Rattle.print_year.proofs.lay_heading.Goals as goal
-
-pub lay_figure-numbered-requires : goal.lay_figure-numbered-requires
-lay_figure-numbered-requires c = omega (arith, year_length c.args.year)
-
-pub lay_word-requires : goal.lay_word-requires
-lay_word-requires c = omega (arith, year_length c.args.year)
 
 pub returns : goal.returns
 unfolding heading_text
