@@ -8,11 +8,10 @@ use native.Mathlib.Nat.{mul-le-mul_right}
 use native.Mathlib.Omega.{arith}
 use lib.ListN.{length, get_or}
 use Rattle.lagoon_month.specs.declared.Month.{Month}
-use Rattle.lagoon_month.specs.declared.Outcome.{Outcome}
 use Rattle.lagoon_month.specs.declared.Standing.{Standing}
 use Rattle.lagoon_run.specs.declared.Totals.{Totals}
 use Rattle.lagoon_factor.specs.Rule.{million}
-use Rattle.lagoon_month.specs.Month.{available_of, outcome_of}
+use Rattle.lagoon_month.specs.Month.{available_of}
 use Rattle.lagoon_run.specs.Run.{with_of, run_from, no_month, months_of}
 use Rattle.lagoon_month.specs.Asks.{entered_most, grams_most}
 use Rattle.lagoon_run.specs.Asks.{RunFits}
@@ -52,12 +51,3 @@ module _ (standing : Standing) (list : List Month) where
     pub one_more : {next : Totals} → next ≡ with_of totals (get_or list passed no_month) → next ≡ run_from standing months (passed + 1)
     unfolding run_from
     one_more more = rw (add-one passed, step passed, ← is) more
-
-  -- a turn of the loop that keeps the standing alone
-  module _ {at : Standing} (passed : ℕ) (is : at ≡ (run_from standing months passed).standing) where
-    pub has_room_at : RunFits standing list → passed < length list → (available_of at (get_or list passed no_month) < grams_most) × ((get_or list passed no_month).factor ≤ million)
-    has_room_at fits below = let r = room fits passed below in rw is (omega (arith, r.out), r.factor)
-
-    pub one_more_at : {outcome : Outcome} → outcome ≡ outcome_of at (get_or list passed no_month) → outcome.next ≡ (run_from standing months (passed + 1)).standing
-    unfolding run_from with_of
-    one_more_at told = rw (told, is, add-one passed, step passed)

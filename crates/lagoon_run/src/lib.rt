@@ -33,6 +33,7 @@ impl Totals {
         }
     }
 
+    #[tactic(auto, unfolding(crate::specs::Run::with_of))]
     fn with(self, month: Month) -> Self
         requires grams_fit { (self.entered.0 + month.entered.0 < grams_most)
             × (self.degraded.0 + self.removed.0 + available_of self.standing month < grams_most) }
@@ -50,6 +51,7 @@ impl Totals {
 }
 
 // The months one after the other, from a standing: each starts from what the month before handed on.
+#[tactic(auto, using(crate::proofs::Runs::one_more), unfolding(crate::specs::Run::run_from))]
 pub fn run(from: Standing, months: &[Month]) -> Totals
     requires { RunFits from months.now }
     ensures { result ≡ run_from from (months_of months.now) (length months.now) }
@@ -59,17 +61,4 @@ pub fn run(from: Standing, months: &[Month]) -> Totals
         totals = totals.with(*month);
     }
     totals
-}
-
-// The standing that the same months hand on, where nobody asks for their totals: a loop of its own, since a
-// year walks all months before it, and each would pay for three sums that nobody reads.
-pub fn handed_on(from: Standing, months: &[Month]) -> Standing
-    requires { RunFits from months.now }
-    ensures { result ≡ (run_from from (months_of months.now) (length months.now)).standing }
-{
-    let mut standing = from;
-    for month in months {
-        standing = standing.month(*month).next;
-    }
-    standing
 }

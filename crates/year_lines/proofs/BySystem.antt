@@ -1,11 +1,10 @@
 -- A line's sums by its system, from what the code read, and the sums of one line more.
 -- Assumes nothing.
-use Prim.Native.Nat.{ℕ, zero, suc, ◌+◌, ◌-◌, ◌≤◌}
+use Prim.Native.Nat.{ℕ, ◌+◌}
 use mathlib.Core.Bool.{Bool, cond}
 use mathlib.Core.List.{List}
 use mathlib.Core.Path.{sym, ap, ◌≡◌, ◌∙◌}
-use native.Mathlib.Nat.{not-suc-le-zero}
-use native.Mathlib.Omega.{arith}
+use native.Mathlib.Numerals.{add-one}
 use borrow.Author.Tests.{eq-eqb, ne_eqb}
 use Rattle.lagoon_run.specs.Run.{year_of}
 use Rattle.lagoon_run.specs.declared.Totals.{Totals}
@@ -45,11 +44,7 @@ module _ (book : List ℕ) (year line : ℕ) {seen : Option ℕ} (read : seen �
         is ∙ rw (sum, Line-read) (sym (ap (λ (b : Bool). cond b lagoon other) (ne_eqb system anaerobic z))) ∙ by value
 
 pub one_line_more :
-    (each : ℕ → Sums) (line : ℕ) {sums one next : Sums} → 1 ≤ line → sums ≡ sums_over each all (line - 1) → one ≡ each line → next ≡ plus sums one →
-    next ≡ sums_over each all (line + 1 - 1)
+    (each : ℕ → Sums) (passed : ℕ) {sums one next : Sums} → sums ≡ sums_over each all passed → one ≡ each (passed + 1) → next ≡ plus sums one →
+    next ≡ sums_over each all (passed + 1)
 unfolding sums_over
-one_line_more each zero low is read more = absurd (not-suc-le-zero low)
-one_line_more each (suc k) low is read more =
-    let earlier : suc k - 1 ≡ k = omega arith in
-    let later : suc k + 1 - 1 ≡ suc k = omega arith in
-    more ∙ rw (later, is, read, earlier)
+one_line_more each passed is read more = rw (more, is, read, add-one passed)

@@ -3,7 +3,7 @@
 use Prim.Native.Nat.{ℕ, ◌+◌, ◌-◌, ◌≤◌, ◌<◌}
 use mathlib.Core.List.{List}
 use mathlib.Core.Path.{sym, ap, subst, ◌≡◌, ◌∙◌}
-use native.Mathlib.Decide.{dec_lt}
+use native.Mathlib.Decide.{dec_le}
 use native.Mathlib.Omega.{arith}
 use lib.ListN.{length, get_or, set, replicate, length-set, length-replicate, get_or-replicate}
 use lib.Seq.{get_or-set_same, get_or-set_other}
@@ -51,33 +51,34 @@ module _ (book : List ℕ) (line : ℕ) {seen : Option ℕ} (read : seen ≡ sys
     pub stands : system ≡ anaerobic → system_of book line ≡ Some anaerobic
     stands z = sym read ∙ value ∙ ap Some z
 
--- a walk over the lines that has come to one: those before it are renewed, and it and those after it are as the year before left them
-pub record Renewed (book : List ℕ) (year line : ℕ) (standings : List Standing) : Type 0 where
+-- a walk over the lines that has passed some: those are renewed, and the others are as the year before left them
+pub record Renewed (book : List ℕ) (year passed : ℕ) (standings : List Standing) : Type 0 where
   pub long : length standings ≡ lines
-  pub done : (l : ℕ) → 1 ≤ l → l < line → Handed book year l (get_or standings (l - 1) empty_of)
-  pub left : (l : ℕ) → line ≤ l → l ≤ lines → Handed book (year - 1) l (get_or standings (l - 1) empty_of)
+  pub done : (line : ℕ) → 1 ≤ line → line ≤ passed → Handed book year line (get_or standings (line - 1) empty_of)
+  pub left : (line : ℕ) → passed < line → line ≤ lines → Handed book (year - 1) line (get_or standings (line - 1) empty_of)
 
 module _ (book : List ℕ) (year : ℕ) {standings : List Standing} where
-  pub renewed_none : Standings book (year - 1) standings → Renewed book year 1 standings
-  renewed_none before = record { long = before.long; done = λ l low high. absurd (omega arith); left = before.each }
+  pub renewed_none : Standings book (year - 1) standings → Renewed book year 0 standings
+  renewed_none before =
+      record { long = before.long; done = λ line low high. absurd (omega arith); left = λ line low high. before.each line (omega arith) high }
 
-  pub renewed_all : {line : ℕ} → line ≡ lines + 1 → Renewed book year line standings → Standings book year standings
-  renewed_all end renewed = record { long = renewed.long; each = λ l low high. renewed.done l low (omega arith) }
+  pub renewed_all : {passed : ℕ} → passed ≡ lines → Renewed book year passed standings → Standings book year standings
+  renewed_all end renewed = record { long = renewed.long; each = λ line low high. renewed.done line low (omega arith) }
 
-  module _ (line : ℕ) {next : Standing} (low : 1 ≤ line) (high : line ≤ lines) (is : Handed book year line next) (renewed : Renewed book year line standings) where
-    done_more : (l : ℕ) → 1 ≤ l → l < line + 1 → Dec (l < line) → Handed book year l (get_or (set standings (line - 1) next) (l - 1) empty_of)
-    done_more l from to (yes before) = λ a.
-        get_or-set_other standings (line - 1) (l - 1) next empty_of (λ same. absurd (omega (arith, same))) ∙ renewed.done l from before a
-    done_more l from to (no here) =
-        let e : line ≡ l = omega arith in
-        subst (λ (k : ℕ). Handed book year k (get_or (set standings (line - 1) next) (k - 1) empty_of)) e
-        (λ a. get_or-set_same standings (line - 1) next empty_of (omega (arith, renewed.long)) ∙ is a)
+  module _ (passed : ℕ) {next : Standing} (inside : passed < lines) (is : Handed book year (passed + 1) next) (renewed : Renewed book year passed standings) where
+    done_more : (line : ℕ) → 1 ≤ line → line ≤ passed + 1 → Dec (line ≤ passed) → Handed book year line (get_or (set standings passed next) (line - 1) empty_of)
+    done_more line low high (yes before) = λ a.
+        get_or-set_other standings passed (line - 1) next empty_of (λ same. absurd (omega (arith, same))) ∙ renewed.done line low before a
+    done_more line low high (no here) =
+        let own : line ≡ passed + 1 = omega arith in
+        let at : line - 1 ≡ passed = omega arith in
+        rw (at, own) (λ a. get_or-set_same standings passed next empty_of (omega (arith, renewed.long)) ∙ is a)
 
-    pub renewed_more : Renewed book year (line + 1) (set standings (line - 1) next)
+    pub renewed_more : Renewed book year (passed + 1) (set standings passed next)
     renewed_more =
         record {
-          long = length-set standings (line - 1) next ∙ renewed.long;
-          done = λ l from to. done_more l from to (dec_lt l line);
-          left = λ l from to a.
-              get_or-set_other standings (line - 1) (l - 1) next empty_of (λ same. absurd (omega (arith, same))) ∙ renewed.left l (omega arith) to a;
+          long = length-set standings passed next ∙ renewed.long;
+          done = λ line low high. done_more line low high (dec_le line passed);
+          left = λ line low high a.
+              get_or-set_other standings passed (line - 1) next empty_of (λ same. absurd (omega (arith, same))) ∙ renewed.left line (omega arith) high a;
         }

@@ -17,8 +17,6 @@ use Rattle.year_months.proofs.Arrays.{array_at}
 use Rattle.year_months.proofs.Years.{own_year}
 use Rattle.year_heads.specs.Heads.{heads_of}
 use Rattle.year_lines.specs.Lines.{entered_by, entered_at, month_at}
-use Rattle.year_lines.specs.Asks.{HoldsFigures}
-use Rattle.year_lines.specs.declared.YearFigures.{YearFigures}
 use Rattle.year_lines.proofs.Ranges.{days_most}
 
 -- the days of a book are a month's
@@ -35,7 +33,7 @@ made entered factor drained = record { entered = entered; factor = factor; drain
 
 module _ (book : List ℕ) (line year : ℕ) (some : 1 ≤ year) {numbers : Line} {heads before : ℕ} (read : numbers ≡ line_of book line)
     (summed : heads ≡ heads_of book year numbers.category) (begins : before ≡ months_before year) (passed : ℕ) (inside : passed < months_in_year)
-    {figures : YearFigures} (held : HoldsFigures book year figures) where
+    {days factors : List ℕ} (has_days : HoldsYear ℕ 0 year (days_at book) days) (has_factors : HoldsYear ℕ 0 year (factor_at book) factors) where
   abbrev here : ℕ
   here = before + passed + 1
 
@@ -45,14 +43,14 @@ module _ (book : List ℕ) (line year : ℕ) (some : 1 ≤ year) {numbers : Line
       sym (own_year year (passed + 1) some (omega arith) (omega arith)) ∙ ap year_at e
 
   pub month_is :
-      {entered : Solids} {drained : Bool} → entered ≡ entered_by heads numbers (get_or figures.days passed 0) → drained ≡ drained_of book line here →
-      made entered (get_or figures.factors passed 0) drained ≡ month_at book line here
+      {entered : Solids} {drained : Bool} → entered ≡ entered_by heads numbers (get_or days passed 0) → drained ≡ drained_of book line here →
+      made entered (get_or factors passed 0) drained ≡ month_at book line here
   unfolding month_at entered_at
   month_is came drained_is =
-      let days_are : get_or figures.days passed 0 ≡ days_at book here =
-      array_at held.days passed inside ∙ ap (λ (b : ℕ). days_at book (b + passed + 1)) (sym begins) in
-      let factor_is : get_or figures.factors passed 0 ≡ factor_at book here =
-      array_at held.factors passed inside ∙ ap (λ (b : ℕ). factor_at book (b + passed + 1)) (sym begins) in
+      let days_are : get_or days passed 0 ≡ days_at book here =
+      array_at has_days passed inside ∙ ap (λ (b : ℕ). days_at book (b + passed + 1)) (sym begins) in
+      let factor_is : get_or factors passed 0 ≡ factor_at book here =
+      array_at has_factors passed inside ∙ ap (λ (b : ℕ). factor_at book (b + passed + 1)) (sym begins) in
       rw (came, days_are, factor_is, drained_is)
       (ap (λ (h : ℕ). made (entered_by h numbers (days_at book here)) (factor_at book here) (drained_of book line here))
       (summed ∙ ap (λ (y : ℕ). heads_of book y numbers.category) own) ∙

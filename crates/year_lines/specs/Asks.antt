@@ -5,9 +5,7 @@ use Rattle.lagoon_month.specs.{Month.empty_of, declared.Standing.Standing}
 use Rattle.lagoon_run.specs.Run.{run_of}
 use Rattle.record_table.specs.Table.{lines}
 use Rattle.book_herd.specs.Herd.{system_of}
-use Rattle.year_months.specs.{Series.months_through, Series.days_at, Series.factor_at, Asks.HoldsYear}
-use Rattle.year_heads.specs.Asks.{HoldsHeads}
-use Rattle.year_lines.specs.declared.YearFigures.{YearFigures}
+use Rattle.year_months.specs.Series.{months_through}
 use Rattle.year_lines.specs.Lines.{anaerobic, month_at}
 
 -- the standing that an anaerobic line's months through a year handed on; year 0 stands for the time before the first month. Of a line of another
@@ -19,9 +17,3 @@ Handed book year line standing = system_of book line ≡ Some anaerobic → stan
 pub record Standings (book : List ℕ) (year : ℕ) (standings : List Standing) : Type 0 where
   pub long : length standings ≡ lines
   pub each : (line : ℕ) → 1 ≤ line → line ≤ lines → Handed book year line (get_or standings (line - 1) empty_of)
-
--- what a year has for all its lines: the sums of the heads by category, the days of its months, and their factors
-pub record HoldsFigures (book : List ℕ) (year : ℕ) (figures : YearFigures) : Type 0 where
-  pub heads : HoldsHeads book year figures.heads
-  pub days : HoldsYear ℕ 0 year (days_at book) figures.days
-  pub factors : HoldsYear ℕ 0 year (factor_at book) figures.factors

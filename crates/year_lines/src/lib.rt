@@ -2,15 +2,18 @@
 // for the others.
 #![tactic(auto)]
 
-ghost use Rattle.std.specs.Prelude.{◌≡◌, ◌-◌, ◌≤◌, length, get_or};
+ghost use Rattle.std.specs.Prelude.{◌≡◌, ℕ, ◌-◌, ◌≤◌, Some};
 ghost use Rattle.lagoon_month.specs.Asks.{heads_most};
 ghost use Rattle.lagoon_month.specs.declared.Month.{Month};
 ghost use Rattle.lagoon_run.specs.Run.{no_month};
 ghost use Rattle.record_table.specs.Table.{lines, categories};
-ghost use Rattle.book_herd.specs.Herd.{system_of};
-ghost use Rattle.year_months.specs.Asks.{HoldsYear};
+ghost use Rattle.book_herd.specs.Herd.{system_of, line_of};
+ghost use Rattle.year_months.specs.Series.{days_at, factor_at};
+ghost use Rattle.year_months.specs.Asks.{InPeriod, HoldsYear};
+ghost use Rattle.year_heads.specs.Heads.{heads_of};
+ghost use Rattle.year_heads.specs.Asks.{HoldsHeads};
 ghost use Rattle.year_lines.specs.Lines.{anaerobic, month_at, other_of, line_in, all, sums_of};
-ghost use Rattle.year_lines.specs.Asks.{Handed, HoldsFigures, Standings};
+ghost use Rattle.year_lines.specs.Asks.{Handed, Standings};
 
 use book::Book;
 use book_herd::Line;
@@ -22,7 +25,7 @@ use year_sums::Sums;
 
 const LINES: usize = record_table::LINES;
 
-// LN's system 0.
+// LN's system 0: a byte of the record, which is matched in this place alone, so that no type stands for the systems.
 const ANAEROBIC: u64 = 0;
 
 // 12, for the average of the year's heads, times 10,000,000, which brings the fields' units to grams.
@@ -34,133 +37,93 @@ const DAYS_IN_YEAR: u64 = 365;
 // A conversion factor counts ten-thousandths.
 const CONVERSION_PARTS: u64 = 10_000;
 
-// All lines of a year. The standing that each has from the years before is worked out first, from the first
-// month.
+// All lines of a year. The years before it are walked first, from empty lagoons, for what each line hands on.
 pub fn sums_of(book: &Book<'_>, year: Year) -> Sums
     ensures { result ≡ sums_of book.now year all }
 {
-    sums_from(book, year, standings_before(book, year))
-}
-
-// The standing that each line has from the years before: one after the other, from empty lagoons.
-fn standings_before(book: &Book<'_>, year: Year) -> [Standing; LINES]
-    ensures { Standings book.now (year - 1) result }
-{
-    let empty = Standing::empty();
-    let mut standings = [empty; LINES];
+    let mut standings = [Standing::empty(); LINES];
     for earlier in 1..year.number() {
-        // The prover's walk doesn't cover a call's result laid in a variable that holds an array.
-        let handed_on = standings_after(book, Year::of(earlier), standings);
-        standings = handed_on;
+        YearFigures::of(book, Year::of(earlier)).sums_from(&mut standings);
     }
-    standings
+    YearFigures::of(book, year).sums_from(&mut standings)
 }
 
-// The standing that each line hands on from an earlier year: nothing else is asked of it, and its sums are
-// left out.
-fn standings_after(book: &Book<'_>, earlier: Year, before: [Standing; LINES]) -> [Standing; LINES]
-    requires standings { Standings book.now (earlier - 1) before }
-    ensures { Standings book.now earlier result }
-{
-    let figures = YearFigures::of(book, earlier);
-    let mut standings = before;
-    for line in 1..=LINES {
-        let from = standings[line - 1];
-        standings[line - 1] = figures.line_hands_on(book, earlier, line, from);
-    }
-    standings
-}
-
-// All lines, each from the standing that the years before handed on.
-fn sums_from(book: &Book<'_>, year: Year, before: [Standing; LINES]) -> Sums
-    requires standings { Standings book.now (year - 1) before }
-    ensures { result ≡ sums_of book.now year all }
-{
-    book.known();
-    let _ = year.number();
-    let figures = YearFigures::of(book, year);
-    let mut sums = Sums::nothing();
-    for line in 1..=LINES {
-        let own = figures.line_in(book, year, line, before[line - 1]);
-        sums = sums.plus(own);
-    }
-    sums
-}
-
-// What a year has for all its lines alike: the sum of each category's heads, and the days and the factor of
-// each month. It is worked out once.
+// A year of a book, with what it has for all its lines alike: the sum of each category's heads, and the days and
+// the factor of each month. It is worked out once.
 #[derive(Drop)]
-struct YearFigures {
+struct YearFigures<'a, 'b> {
+    book: &'a Book<'b>,
+    year: Year,
     heads: [u64; CATEGORIES],
     days: [u64; MONTHS_IN_YEAR],
     factors: [u64; MONTHS_IN_YEAR],
+    ghost in_period: { InPeriod year },
+    ghost has_heads: { HoldsHeads book.now year heads },
+    ghost has_days: { HoldsYear ℕ 0 year (days_at book.now) days },
+    ghost has_factors: { HoldsYear ℕ 0 year (factor_at book.now) factors },
 }
 
-impl YearFigures {
-    fn of(book: &Book<'_>, year: Year) -> Self
-        ensures { HoldsFigures book.now year result }
+impl<'a, 'b> YearFigures<'a, 'b> {
+    fn of(book: &'a Book<'b>, year: Year) -> YearFigures<'a, 'b>
+        ensures { (result.book.now ≡ book.now) × (result.year ≡ year) }
     {
+        let _ = year.number();
         YearFigures {
+            book,
+            year,
             heads: year_heads::by_category(book, year),
             days: year_months::days(book, year),
             factors: year_months::factors(book, year),
         }
     }
 
-    // What one line hands on. A line of another system than the anaerobic has no standing: the one that it
-    // is given is handed on as it is, and nothing reads it.
-    fn line_hands_on(&self, book: &Book<'_>, year: Year, line: usize, from: Standing) -> Standing
-        requires line_of_book { line ≤ lines }
-        requires handed { Handed book.now (year - 1) line from }
-        requires figures { HoldsFigures book.now year self.now }
-        ensures { Handed book.now year line result }
+    // All lines, each from the standing that the year before handed on. What it hands on itself takes that
+    // standing's place.
+    fn sums_from(&self, standings: &mut [Standing; LINES]) -> Sums
+        requires standings { Standings self.now.book.now (self.now.year - 1) standings.old }
+        ensures sums { result ≡ sums_of self.now.book.now self.now.year all }
+        ensures handed_on { Standings self.now.book.now self.now.year standings.new }
     {
-        book.known();
-        let _ = year.number();
-        let Some(system) = book_herd::system(book, line) else {
-            return from;
-        };
-        if system == ANAEROBIC {
-            let months = self.months_of_line(book, year, line);
-            return lagoon_run::handed_on(from, &months);
+        self.book.known();
+        let mut sums = Sums::nothing();
+        for (passed, standing) in standings.iter_mut().enumerate() {
+            sums = sums.plus(self.line_from(passed + 1, standing));
         }
-        from
+        sums
     }
 
-    // One line, by its system.
-    fn line_in(&self, book: &Book<'_>, year: Year, line: usize, from: Standing) -> Sums
+    // One line, by its system. What an anaerobic line hands on takes the place of the standing that it starts
+    // from; nothing reads that of a line of another system.
+    fn line_from(&self, line: usize, standing: &mut Standing) -> Sums
         requires line_of_book { line ≤ lines }
-        requires handed { Handed book.now (year - 1) line from }
-        requires figures { HoldsFigures book.now year self.now }
-        ensures { result ≡ line_in book.now year line }
+        requires handed { Handed self.now.book.now (self.now.year - 1) line standing.old }
+        ensures sums { result ≡ line_in self.now.book.now self.now.year line }
+        ensures handed_on { Handed self.now.book.now self.now.year line standing.new }
     {
-        book.known();
-        let _ = year.number();
-        let Some(system) = book_herd::system(book, line) else {
-            return Sums::nothing();
-        };
-        let numbers = book_herd::line_at(book, line);
-        if system == ANAEROBIC {
-            let months = self.months_of_line(book, year, line);
-            let totals = lagoon_run::run(from, &months);
-            return Sums::anaerobic(totals, numbers.b0);
+        self.book.known();
+        let numbers = book_herd::line_at(self.book, line);
+        match book_herd::system(self.book, line) {
+            None => Sums::nothing(),
+            Some(ANAEROBIC) => {
+                let totals = lagoon_run::run(*standing, &self.months_of_line(line, numbers));
+                *standing = totals.standing;
+                Sums::anaerobic(totals, numbers.b0)
+            }
+            Some(_) => other(numbers, self.own_heads(numbers)),
         }
-        other(numbers, self.own_heads(numbers))
     }
 
     // The months of an anaerobic line in the year, first to last.
     #[tactic(auto, using(year_months::proofs::Arrays::array_begins, year_months::proofs::Arrays::array_more, year_months::proofs::Arrays::array_full))]
-    fn months_of_line(&self, book: &Book<'_>, year: Year, line: usize) -> [Month; MONTHS_IN_YEAR]
+    fn months_of_line(&self, line: usize, numbers: Line) -> [Month; MONTHS_IN_YEAR]
         requires line_of_book { line ≤ lines }
-        requires is_anaerobic { system_of book.now line ≡ Some anaerobic }
-        requires figures { HoldsFigures book.now year self.now }
-        ensures { HoldsYear Month no_month year (month_at book.now line) result }
+        requires is_anaerobic { system_of self.now.book.now line ≡ Some anaerobic }
+        requires its_numbers { numbers ≡ line_of self.now.book.now line }
+        ensures { HoldsYear Month no_month self.now.year (month_at self.now.book.now line) result }
     {
-        book.known();
-        let _ = year.number();
-        let numbers = book_herd::line_at(book, line);
+        self.book.known();
         let heads = self.own_heads(numbers);
-        let before = year.months_before();
+        let before = self.year.months_before();
         let none = Month {
             entered: Solids::of_grams(0),
             factor: 0,
@@ -178,7 +141,7 @@ impl YearFigures {
             *month = Month {
                 entered,
                 factor: self.factors[passed],
-                drained: book_herd::drained(book, line, before + passed + 1),
+                drained: book_herd::drained(self.book, line, before + passed + 1),
             };
         }
         months
@@ -186,8 +149,8 @@ impl YearFigures {
 
     // The sum of the year's heads of a line's category.
     fn own_heads(&self, numbers: Line) -> u64
-        requires { (1 ≤ numbers.category) × (numbers.category ≤ categories) × (length self.now.heads ≡ categories) }
-        ensures { result ≡ get_or self.now.heads (numbers.category - 1) 0 }
+        requires { (1 ≤ numbers.category) × (numbers.category ≤ categories) }
+        ensures { result ≡ heads_of self.now.book.now self.now.year numbers.category }
     {
         self.heads[numbers.category as usize - 1]
     }

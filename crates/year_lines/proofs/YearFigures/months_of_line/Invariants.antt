@@ -8,4 +8,4 @@ use Rattle.year_lines.specs.Lines.{month_at}
 use Rattle.year_lines.proofs.YearFigures.months_of_line.Given as goal
 
 abbrev pub invariant-loop-passed : goal.invariant-loop-passed
-invariant-loop-passed l = Holds Month no_month months_in_year l.before l.passed (month_at l.book l.line) l.month-items
+invariant-loop-passed l = Holds Month no_month months_in_year l.before l.passed (month_at l.self.book.now l.line) l.month-items

@@ -1,7 +1,0 @@
--- After so many months the standing is theirs. Assumes nothing.
-use mathlib.Core.Path.{◌≡◌}
-use Rattle.lagoon_run.specs.Run.{run_from, months_of}
-use Rattle.lagoon_run.proofs.handed_on.Given as goal
-
-abbrev pub invariant-loop-month : goal.invariant-loop-month
-invariant-loop-month l = l.standing ≡ (run_from l.fn.from (months_of l.months) l.month-index).standing
