@@ -18,7 +18,8 @@ use refusals::Refusal;
 use units::Methane;
 use year::Figures;
 
-// The number that says that nothing was refused.
+// C has no `Option` and no `Result`: in the structs below the number 0 or a flag says which of the two it would be. The number that says that nothing was
+// refused:
 const NOT_REFUSED: u64 = 0;
 
 // A record: a refusal's number and place.

@@ -1,4 +1,6 @@
 // A program's input, read into lent bytes. A read that fails never passes for the end of the input.
+//
+// A block travels with the number of bytes that it holds, since a `Vec` would need a heap, which these programs do without.
 #![tactic(auto)]
 
 ghost use Rattle.std.specs.Prelude.{◌≡◌, ◌-◌, ◌<◌, length, take};
