@@ -2,10 +2,10 @@
 // other byte of the page as it was, and returns the place after the text.
 //
 // No `Display` and `write!`: these contracts promise that a text is laid wherever it has room, and the library's `write!` says what was written only where
-// its answer is `Ok`; no contract says when that is.
+// its answer is `Ok`; no contract says when that is. Nor is a page a type with its place in it: each contract says where its text ends.
 #![tactic(auto)]
 
-ghost use Rattle.std.specs.Prelude.{◌≡◌, [], ◌∷◌, ◌++◌, ◌+◌, ◌≤◌, ◌<◌, length};
+ghost use Rattle.std.specs.Prelude.{◌++◌, ◌+◌, ◌≤◌, length};
 ghost use Rattle.print_page.specs.Number.{decimal, signed};
 ghost use Rattle.print_page.specs.Page.{Lays};
 

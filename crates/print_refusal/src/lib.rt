@@ -1,4 +1,4 @@
-// A refusal as it is printed: of a record, of a year or of a meter's month.
+// A refusal as it is printed: of a record, of a year or of a meter's month. It is laid, and not written by `Display`, as `print_page` says.
 #![tactic(auto)]
 
 ghost use Rattle.std.specs.Prelude.{◌+◌, ◌≤◌, length};

@@ -1,5 +1,5 @@
 // The four lines of a stated year, laid as bytes into a lent page. Each function lays its text from a place on, leaves
-// every other byte of the page as it was, and returns the place after the text.
+// every other byte of the page as it was, and returns the place after the text: no `Display` promises that, as `print_page` says.
 #![tactic(auto)]
 
 ghost use Rattle.std.specs.Prelude.{◌+◌, ◌≤◌, length};
@@ -46,7 +46,12 @@ fn lay_grams(page: &mut [u8], at: usize, figures: Figures) -> usize
     ensures { Lays page.old at (grams_text figures) result page.new }
 {
     let baseline = print_page::lay_figure(page, at, b"baseline ", figures.baseline.grams());
-    let project = print_page::lay_figure(page, baseline, b" project ", figures.project_methane.grams());
+    let project = print_page::lay_figure(
+        page,
+        baseline,
+        b" project ",
+        figures.project_methane.grams(),
+    );
     let metered = print_page::lay_figure(page, project, b" metered ", figures.metered.grams());
     print_page::lay_word(page, metered, b"\n")
 }

@@ -1,5 +1,5 @@
 // What the year program prints for a book: its years from the first to the last, or to the first that is refused. They are
-// laid as bytes into a lent page, whose other bytes stay, and the place after them is returned.
+// laid as bytes into a lent page, whose other bytes stay, and the place after them is returned: no `Display` promises that, as `print_page` says.
 #![tactic(auto)]
 
 ghost use Rattle.std.specs.Prelude.{◌≤◌, length};

@@ -19,6 +19,10 @@ lay_refusal-requires g c =
     let place : c.in-Err-Refused.refusal.place < 2 ^ 64 = search rules in
     omega (arith, refusal_fits c.in-Err-Refused.refusal place)
 
+pub returns-in-Ok : goal.returns-in-Ok
+unfolding ending_text
+returns-in-Ok g c = laid c.empty.ensures c.in-Ok.ensures.comes refl tt (rw c.of.ensures at c.lay_years.ensures)
+
 pub returns-in-Err-Refused : goal.returns-in-Err-Refused
 unfolding ending_text
 returns-in-Err-Refused g c = laid c.empty.ensures c.post_input.ensures.comes (c.in-Err-Refused.is ∙ ap Err c.in-Err-Refused.field-0-is) tt c.lay_refusal.ensures
