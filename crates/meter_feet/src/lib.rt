@@ -5,6 +5,7 @@ ghost use Rattle.std.specs.Prelude.{◌≡◌, ◌≤◌, ◌<◌, length};
 ghost use Rattle.meter_feet.specs.Feet.{corrected_of, flow_in, content_in, recorded_of, hour_at};
 
 use meter_hour::Recorded;
+use meter_state::{NO_CONTENT, NO_FLOW};
 
 // What the meter read in an hour: a flow in cubic feet, a content in per cent, a temperature in degrees Rankine and an absolute pressure in
 // atm. What the hour's state says is missing is not looked at.
@@ -16,11 +17,7 @@ pub struct Sample {
     pub pressure: f32,
 }
 
-// What is added to a state where there is no flow, where there is no content, and where there is no temperature or no pressure.
-const NO_FLOW: u8 = 1;
-
-const NO_CONTENT: u8 = 2;
-
+// What is added to a state where there is no temperature or no pressure, beside what `meter_state` has for the others.
 const NOT_CORRECTED: u8 = 8;
 
 // The highest state: all of these, and the device out.

@@ -29,6 +29,9 @@ const MOST_DEGREES: u32 = 700;
 
 const MOST_ATM: u32 = 10;
 
+// The five readings that the paper names follow, each the one `scaled` with its own numbers. One function over an enum of the five would be no plainer:
+// each caller would name the reading that it now calls, and the same five lines would stand as arms.
+
 // A flow in cubic metres as whole litres.
 pub fn litres(flow: f32) -> Option<u64>
     ensures { result ≡ litres_of flow }

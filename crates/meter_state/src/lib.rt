@@ -13,14 +13,15 @@ pub enum Reading {
     Neither,
 }
 
-// 4 is added to a state when the device was out. What is left says which values are there: 3 says neither.
+// What is added to a state where there is no flow, where there is no content, and where the device was out; of the first two, 3 says neither. A state
+// is a sum of these and not one of some kinds, so that an enum of it would have a variant for each sum: it stays the number that the paper gives it.
+pub const NO_FLOW: u8 = 1;
+
+pub const NO_CONTENT: u8 = 2;
+
 const OUT: u8 = 4;
 
 const BOTH: u8 = 0;
-
-const NO_FLOW: u8 = 1;
-
-const NO_CONTENT: u8 = 2;
 
 pub fn is_out(state: u8) -> bool
     ensures { result ≡ is_out state }
