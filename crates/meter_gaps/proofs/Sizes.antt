@@ -37,9 +37,6 @@ module _ (s : ℕ → Option ℕ) (m : ℕ) (small : (h : ℕ) → amount (s h) 
   pub sum_most : (a k t : ℕ) → total_of s a k ≡ Some t → t ≤ k * m
   sum_most a k t p = rw p at (total_most a k)
 
-  pub hour_most : (h v : ℕ) → s h ≡ Some v → v ≤ m
-  hour_most h v p = rw p at (small h)
-
   average_most : (n a b : ℕ) → amount (average_of s n a b) ≤ m
   unfolding average_of
   average_most n a b =

@@ -1,8 +1,9 @@
 -- An hour more: of a sum, and of the run that an hour stands in.
 -- Assumes nothing.
-use Rattle.std.specs.Prelude.{Option, Some, None}
+use Rattle.std.specs.Prelude.{Option, Some, None, List}
+use Rattle.std.specs.List.{slice_range}
 use Prim.Native.Nat.{ℕ, zero, suc, ◌+◌, ◌-◌, ◌≤◌, ◌<◌}
-use mathlib.Core.Path.{◌≡◌, refl, sym, subst}
+use mathlib.Core.Path.{◌≡◌, refl, subst}
 use mathlib.Core.Bool.{Bool, true, false, cond}
 use native.Mathlib.Numerals.{add-one}
 use native.Mathlib.Omega.{arith}
@@ -10,7 +11,9 @@ use borrow.Author.Tests.{eq-eqb, ne_eqb, eqb-false}
 use lib.Dec.{eqb}
 use mathlib.Core.Logic.{⊎_elim}
 use native.Mathlib.Nat.{eq-or-lt_of_le}
-use Rattle.meter_series.specs.Series.{is_recorded}
+use lib.ListN.{get_or, drop}
+use lib.Seq.{get_or-take, get_or-drop}
+use Rattle.meter_series.specs.Series.{is_recorded, series}
 use Rattle.meter_gaps.specs.Filling.{start_of, plus, total_of}
 
 module _ (s : ℕ → Option ℕ) (a : ℕ) where
@@ -28,6 +31,10 @@ module _ (s : ℕ → Option ℕ) (a : ℕ) where
       plus_none None = refl
       plus_none (Some t) = refl
 
+-- the hour at k of the window of n hours from a on
+pub window_hour : (hours : List (Option ℕ)) (a n k : ℕ) → k < n → get_or (slice_range hours a (a + n)) k None ≡ series hours (a + k)
+window_hour hours a n k b = let e : a + n - a ≡ n = omega arith in rw (e, get_or-take n (drop a hours) k None b, get_or-drop a hours k None)
+
 pub start_le : (s : ℕ → Option ℕ) (h : ℕ) → start_of s h ≤ h
 unfolding start_of
 start_le s zero = omega arith
@@ -42,14 +49,14 @@ pub start_first : (s : ℕ → Option ℕ) (h : ℕ) → h ≡ 0 → true ≡ eq
 unfolding start_of
 start_first s h e = rw e
 
-pub start_test : (s : ℕ → Option ℕ) (h : ℕ) → (h ≡ 0 → ⊥) → is_recorded (s (h - 1)) ≡ eqb (start_of s h) h
+pub start_test : (s : ℕ → Option ℕ) (h : ℕ) → (h ≡ 0 → ⊥) → eqb (start_of s h) h ≡ is_recorded (s (h - 1))
 unfolding start_of
 start_test s zero n = absurd (n refl)
 start_test s (suc h) n = let e : suc h - 1 ≡ h = omega arith in rw e (picked (is_recorded (s h)))
   where
-    picked : (b : Bool) → b ≡ eqb (cond b (suc h) (start_of s h)) (suc h)
-    picked true = sym (eq-eqb (suc h) (suc h) refl)
-    picked false = sym (ne_eqb (start_of s h) (suc h) (λ z. omega (arith, start_le s h)))
+    picked : (b : Bool) → eqb (cond b (suc h) (start_of s h)) (suc h) ≡ b
+    picked true = eq-eqb (suc h) (suc h) refl
+    picked false = ne_eqb (start_of s h) (suc h) (λ z. omega (arith, start_le s h))
 
 module _ (s : ℕ → Option ℕ) (h : ℕ) where
   pub start_earlier : eqb (start_of s h) h ≡ false → start_of s h < h

@@ -27,6 +27,7 @@ struct Month<'a> {
 }
 
 // The series after filling.
+#[tactic(auto, using(meter_series::proofs::Arrays::agree, crate::proofs::Filled::filled_past))]
 pub fn fill(hours: &[Option<u64>]) -> [Option<u64>; MOST_HOURS]
     requires one_month { length hours.now ≤ most_hours }
     requires at_most { AtMost most_amount hours.now }
@@ -64,7 +65,7 @@ impl Month<'_> {
     }
 
     // Whether the run that an hour stands in starts there: the hour before it is recorded, or there is none.
-    #[tactic(auto, using(crate::proofs::Stepping::start_first))]
+    #[tactic(auto, using(crate::proofs::Stepping::start_first, crate::proofs::Stepping::start_test))]
     fn is_start(&self, hour: usize) -> bool
         ensures { result ≡ eqb (start_of (series self.now.hours.now) hour) hour }
     {
@@ -131,14 +132,15 @@ impl Month<'_> {
     }
 
     // The sum of the four hours from one on, where each is recorded.
-    #[tactic(auto, using(crate::proofs::Stepping::total_more, crate::proofs::Stepping::total_none), unfolding(crate::specs::Filling::total_of))]
+    #[tactic(auto, using(crate::proofs::Stepping::total_more, crate::proofs::Stepping::total_none, crate::proofs::Stepping::window_hour), unfolding(crate::specs::Filling::total_of))]
     fn total(&self, from: usize) -> Option<u64>
         requires { from ≤ most_hours }
         ensures { result ≡ total_of (series self.now.hours.now) from neighbours }
     {
+        let window = self.hours.get(from..from + NEIGHBOURS)?;
         let mut sum = 0;
-        for i in 0..NEIGHBOURS {
-            sum += meter_series::at(self.hours, from + i)?;
+        for hour in window {
+            sum += (*hour)?;
         }
         Some(sum)
     }

@@ -7,8 +7,8 @@ use borrow.Author.Count.{below_none}
 use lib.ListN.{length, length-set}
 use Rattle.meter_series.specs.Series.{series, most_hours}
 use Rattle.meter_gaps.specs.Filling.{fill_from, filled}
-use Rattle.meter_series.proofs.Arrays.{nothing, agree, stored, later}
-use Rattle.meter_gaps.proofs.Filled.{filled_here, filled_past}
+use Rattle.meter_series.proofs.Arrays.{nothing, stored, later}
+use Rattle.meter_gaps.proofs.Filled.{filled_here}
 use Rattle.meter_gaps.proofs.Stepping.{start_kept}
 use Rattle.meter_gaps.proofs.fill.Goals as goal
 
@@ -26,10 +26,3 @@ loop-hour-preserved c =
       passed = stored l.out l.hour c.or.result (filled hours n) (omega arith) l.invariant.passed here;
       ahead = later l.out l.hour c.or.result l.invariant.ahead;
     }
-
-pub returns-clause-by_index : goal.returns-clause-by_index
-returns-clause-by_index c =
-    let hours = series c.args.hours.now in
-    let n = length c.args.hours.now in
-    let l = c.loop-hour in
-    agree (series l.out) (filled hours n) l.hour l.invariant.passed l.invariant.ahead (λ k b. filled_past hours n k (omega arith))
