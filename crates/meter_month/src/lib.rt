@@ -8,9 +8,9 @@ ghost use Rattle.meter_state.specs.State.{state_at};
 ghost use Rattle.meter_series.specs.Series.{series, most_hours, AtMost};
 ghost use Rattle.meter_hour.specs.Hour.{flow_of, content_of, whole_efficiency};
 ghost use Rattle.meter_hour.specs.Room.{most_flow, most_content};
-ghost use Rattle.meter_month.specs.Month.{both_at, grams_of, destroyed_of, recorded, is_month, are_hours, are_feet_hours, first_refused, hours_of, month_of, feet_month_of};
+ghost use Rattle.meter_month.specs.Month.{both_at, grams_of, destroyed_of, recorded, first_refused, month_of, feet_month_of};
 ghost use Rattle.meter_month.specs.Asks.{AsLong, Holds, passing_of};
-ghost use Rattle.meter_month.specs.Meters.{IsMonth, kind_of, states_of, hour_in};
+ghost use Rattle.meter_month.specs.Meters.{IsMonth, states_of, hour_in, meter_month_of};
 
 mod meter;
 
@@ -21,7 +21,7 @@ use refusals::{Reason, Refusal};
 use units::Methane;
 
 // The month of a meter in cubic metres: the methane that it destroyed, or why it is refused.
-#[tactic(auto, using(crate::proofs::Hours::as_long), unfolding(crate::specs::Month::month_of))]
+#[tactic(auto, unfolding(crate::specs::Month::month_of))]
 pub fn month(
     flows: &[f32],
     contents: &[f32],
@@ -30,19 +30,16 @@ pub fn month(
 ) -> Result<Methane, Refusal>
     ensures { result ≡ month_of flows.now contents.now states.now efficiency }
 {
-    if !are_hours(flows.len(), contents.len(), states.len()) {
-        return Err(Reason::NoMonth.at(0));
-    }
     let meter = Meter::CubicMetres {
         flows,
         contents,
         states,
     };
-    of_hours(&meter, efficiency)
+    of_meter(&meter, efficiency)
 }
 
 // The month of a meter in cubic feet.
-#[tactic(auto, using(crate::proofs::Hours::all_as_long), unfolding(crate::specs::Month::feet_month_of))]
+#[tactic(auto, unfolding(crate::specs::Month::feet_month_of))]
 pub fn feet_month(
     flows: &[f32],
     contents: &[f32],
@@ -54,15 +51,6 @@ pub fn feet_month(
     ensures { result ≡ feet_month_of flows.now contents.now temperatures.now pressures.now
         states.now efficiency }
 {
-    if !are_feet_hours(
-        flows.len(),
-        contents.len(),
-        temperatures.len(),
-        pressures.len(),
-        states.len(),
-    ) {
-        return Err(Reason::NoMonth.at(0));
-    }
     let meter = Meter::CubicFeet {
         flows,
         contents,
@@ -70,41 +58,17 @@ pub fn feet_month(
         pressures,
         states,
     };
-    of_hours(&meter, efficiency)
+    of_meter(&meter, efficiency)
 }
 
-// Whether each hour of a meter in cubic feet has its five values, and the hours are those of a month.
-fn are_feet_hours(
-    flows: usize,
-    contents: usize,
-    temperatures: usize,
-    pressures: usize,
-    states: usize,
-) -> bool
-    ensures { result ≡ are_feet_hours flows contents temperatures pressures states }
+// The month of a meter of either kind.
+#[tactic(auto, using(crate::proofs::EachKind::lists_fit), unfolding(crate::specs::Month::hours_of))]
+fn of_meter(meter: &Meter, efficiency: u32) -> Result<Methane, Refusal>
+    ensures { result ≡ meter_month_of meter.now efficiency }
 {
-    are_hours(flows, contents, states) && are_hours(temperatures, pressures, states)
-}
-
-// Whether each hour has two readings and a state, and the hours are those of a month.
-fn are_hours(readings: usize, others: usize, states: usize) -> bool
-    ensures { result ≡ are_hours readings others states }
-{
-    readings == states && others == states && is_month(states)
-}
-
-// 28 to 31 days of 24 hours.
-fn is_month(hours: usize) -> bool
-    ensures { result ≡ is_month hours }
-{
-    matches!(hours, 672 | 696 | 720 | 744)
-}
-
-// The month of a meter whose lists are as long as a month.
-fn of_hours(meter: &Meter, efficiency: u32) -> Result<Methane, Refusal>
-    requires { IsMonth meter.now }
-    ensures { result ≡ hours_of (kind_of meter.now) efficiency (states_of meter.now) (hour_in meter.now) }
-{
+    if !meter.is_month() {
+        return Err(Reason::NoMonth.at(0));
+    }
     if meter_hour::WHOLE_EFFICIENCY < efficiency {
         return Err(Reason::OutOfRange.at(0));
     }
@@ -119,7 +83,9 @@ fn of_hours(meter: &Meter, efficiency: u32) -> Result<Methane, Refusal>
     Ok(destroyed(meter.kind(), efficiency, states, &recorded))
 }
 
-// Lays what each hour recorded into two series, up to the first hour that is refused.
+// Lays what each hour recorded into two series, up to the first hour that is refused. It counts the hours, since each asks the meter by its number and
+// is the place of a refusal, and since a proof would know nothing of what a walk over both arrays at once has written.
+#[tactic(auto, using(laws::proofs::Counting::search_stops, laws::proofs::Counting::search_ends, crate::proofs::Passing::refused_at, crate::proofs::Passing::none_refused, crate::proofs::Passing::held_up_to))]
 fn record_hours(
     meter: &Meter,
     flows: &mut [Option<u64>],
@@ -182,6 +148,7 @@ fn destroyed(kind: Kind, efficiency: u32, states: &[u8], recorded: &Series) -> M
 }
 
 // The sum over the hours of what each destroyed.
+#[tactic(auto, using(crate::proofs::Totals::grams_none, crate::proofs::Totals::grams_more, meter_state::proofs::States::before_end))]
 fn sum(kind: Kind, efficiency: u32, states: &[u8], recorded: &Series, filled: &Series) -> Methane
     requires one_month { (length states.now ≤ most_hours) × (efficiency ≤ whole_efficiency) }
     requires at_most { AtMost (most_flow kind) filled.now.flows.now × AtMost most_content filled.now.contents.now }
@@ -190,11 +157,11 @@ fn sum(kind: Kind, efficiency: u32, states: &[u8], recorded: &Series, filled: &S
         (series filled.now.flows.now) (series filled.now.contents.now) (length states.now)) }
 {
     let mut total = Methane::of_grams(0);
-    for hour in 0..states.len() {
+    for (hour, state) in states.iter().enumerate() {
         total = total.plus(meter_hour::hour_grams(
             kind,
             efficiency,
-            states[hour],
+            *state,
             recorded.at(hour),
             filled.at(hour),
         ));

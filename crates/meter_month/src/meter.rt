@@ -1,6 +1,7 @@
 // A meter of either kind, by the lists that it lends for a month.
 ghost use Rattle.std.specs.Prelude.{◌≡◌, ◌<◌, length};
-ghost use Rattle.meter_month.specs.Meters.{IsMonth, kind_of, states_of, hour_in};
+ghost use Rattle.meter_month.specs.Month.{is_month, are_hours};
+ghost use Rattle.meter_month.specs.Meters.{IsMonth, kind_of, states_of, is_month_in, hour_in};
 
 use meter_hour::{Kind, Recorded};
 
@@ -40,6 +41,30 @@ impl<'a> Meter<'a> {
         }
     }
 
+    // Whether each hour has its values, and the hours are those of a month.
+    pub(crate) fn is_month(&self) -> bool
+        ensures { result ≡ is_month_in self.now }
+    {
+        match *self {
+            Meter::CubicMetres {
+                flows,
+                contents,
+                states,
+            } => are_hours(flows.len(), contents.len(), states.len()),
+            Meter::CubicFeet {
+                flows,
+                contents,
+                temperatures,
+                pressures,
+                states,
+            } => {
+                let hours = states.len();
+                are_hours(flows.len(), contents.len(), hours)
+                    && are_hours(temperatures.len(), pressures.len(), hours)
+            }
+        }
+    }
+
     // What an hour, from 0, records; `None` says that it is refused.
     pub(crate) fn recorded_at(&self, hour: usize) -> Option<Recorded>
         requires is_month { IsMonth self.now }
@@ -61,4 +86,18 @@ impl<'a> Meter<'a> {
             } => { meter_feet::recorded_at(flows, contents, temperatures, pressures, states, hour) }
         }
     }
+}
+
+// Whether each hour has two readings and a state, and the hours are those of a month.
+fn are_hours(readings: usize, others: usize, states: usize) -> bool
+    ensures { result ≡ are_hours readings others states }
+{
+    readings == states && others == states && is_month(states)
+}
+
+// 28 to 31 days of 24 hours.
+fn is_month(hours: usize) -> bool
+    ensures { result ≡ is_month hours }
+{
+    matches!(hours, 672 | 696 | 720 | 744)
 }

@@ -1,9 +1,9 @@
--- `meter_month::of_hours` meets its contract: each return knows the refusals that were not given before it, and the two arrays, cut at the month's
+-- `meter_month::of_meter` meets its contract: each return knows the refusals that were not given before it, and the two arrays, cut at the month's
 -- end, are the series that it recorded.
 -- Assumes nothing.
 use Rattle.std.proofs.Common.{◌≡◌, ℕ, ◌≤◌, List, Option, None, Ok, length, take, refl, sym, ◌∙◌, subst, arith}
 use Rattle.std.proofs.lemmas.Result.{err_from_is_err_and}
-use borrow.Author.Tests.{lt-ltb, le-ltb, ltb-false}
+use borrow.Author.Tests.{le-ltb, ltb-false}
 use Rattle.meter_series.specs.Series.{series, amount, AtMost}
 use Rattle.meter_hour.specs.declared.Recorded.{Recorded}
 use Rattle.meter_hour.specs.Hour.{flow_of, content_of}
@@ -12,10 +12,10 @@ use Rattle.meter_month.specs.declared.meter.Meter.{Meter}
 use Rattle.meter_month.specs.Month.{recorded, first_refused, metered_of, hours_of}
 use Rattle.meter_month.specs.Asks.{Holds, passing_of}
 use Rattle.meter_month.specs.Meters.{kind_of, states_of, hour_in}
-use Rattle.meter_month.proofs.EachKind.{neither, past, states_most, flows_small, contents_small}
+use Rattle.meter_month.proofs.EachKind.{neither, past, lists_fit, states_most, flows_small, contents_small}
 use Rattle.meter_month.proofs.Readings.{cut}
 use Rattle.meter_month.proofs.Passing.{all_pass, month_refused}
-use Rattle.meter_month.proofs.of_hours.Goals as goal
+use Rattle.meter_month.proofs.of_meter.Goals as goal
 
 -- an array that holds what each hour recorded as far as the month goes, cut at its end
 module _ (meter : Meter) where
@@ -37,26 +37,23 @@ module _ (meter : Meter) where
   all_passed : (u : Unit {0}) → Ok u ≡ passing_of (hour_in meter) hours → hours ≤ first_refused (hour_in meter) hours
   all_passed u e = ltb-false (first_refused (hour_in meter) hours) hours (all_pass (hour_in meter) hours u e)
 
-pub returns-then-efficiency-gt-WHOLE_EFFICIENCY : goal.returns-then-efficiency-gt-WHOLE_EFFICIENCY
-unfolding hours_of
-returns-then-efficiency-gt-WHOLE_EFFICIENCY c = rw (lt-ltb _ _ c.if-efficiency-gt-WHOLE_EFFICIENCY.true, c.at.ensures)
-
 pub returns-in_err-record_hours : goal.returns-in_err-record_hours
 unfolding hours_of
 returns-in_err-record_hours c =
     let meter = c.args.meter.now in
     let given = err_from_is_err_and c.from_residual.result c.from_residual.ensures.1 in
-    rw (given.1, given.2, le-ltb _ _ c.if-efficiency-gt-WHOLE_EFFICIENCY.false)
+    rw (given.1, given.2, sym c.is_month.ensures ∙ c.if-not-is_month.false, le-ltb _ _ c.if-efficiency-gt-WHOLE_EFFICIENCY.false)
     (month_refused (hour_in meter) (hours meter) c.in_err-record_hours.field-0.0 _ (sym c.in_err-record_hours.was ∙ c.record_hours.ensures.passes))
 
 pub destroyed-requires-clause-at_most : goal.destroyed-requires-clause-at_most
 destroyed-requires-clause-at_most c =
     let meter = c.args.meter.now in
     let r = c.record_hours in
+    let fits = lists_fit meter (sym c.is_month.ensures ∙ c.if-not-is_month.false) in
     let all = all_passed meter c.in_ok-record_hours.field-0 (sym c.in_ok-record_hours.was ∙ r.ensures.passes) in
     rw (c.states-states.ensures, c.kind.ensures) (
-      flows_most meter (take (hours meter) r.new.flows) (series_is meter flow_of refl r.new.flows (omega (arith, states_most meter c.requires)) all r.ensures.flows_recorded),
-      contents_most meter (take (hours meter) r.new.contents) (series_is meter content_of refl r.new.contents (omega (arith, states_most meter c.requires)) all r.ensures.contents_recorded),
+      flows_most meter (take (hours meter) r.new.flows) (series_is meter flow_of refl r.new.flows (omega (arith, states_most meter fits)) all r.ensures.flows_recorded),
+      contents_most meter (take (hours meter) r.new.contents) (series_is meter content_of refl r.new.contents (omega (arith, states_most meter fits)) all r.ensures.contents_recorded),
     )
 
 pub returns : goal.returns
@@ -64,14 +61,16 @@ unfolding hours_of metered_of
 returns c =
     let meter = c.args.meter.now in
     let r = c.record_hours in
+    let fits = lists_fit meter (sym c.is_month.ensures ∙ c.if-not-is_month.false) in
     let passed = sym c.in_ok-record_hours.was ∙ r.ensures.passes in
     let all = all_passed meter c.in_ok-record_hours.field-0 passed in
     rw (
+      sym c.is_month.ensures ∙ c.if-not-is_month.false,
       le-ltb _ _ c.if-efficiency-gt-WHOLE_EFFICIENCY.false,
       all_pass (hour_in meter) (hours meter) c.in_ok-record_hours.field-0 passed,
       c.destroyed.ensures,
       c.states-states.ensures,
       c.kind.ensures,
-      series_is meter flow_of refl r.new.flows (omega (arith, states_most meter c.requires)) all r.ensures.flows_recorded,
-      series_is meter content_of refl r.new.contents (omega (arith, states_most meter c.requires)) all r.ensures.contents_recorded,
+      series_is meter flow_of refl r.new.flows (omega (arith, states_most meter fits)) all r.ensures.flows_recorded,
+      series_is meter content_of refl r.new.contents (omega (arith, states_most meter fits)) all r.ensures.contents_recorded,
     )
