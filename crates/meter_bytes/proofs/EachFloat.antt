@@ -1,12 +1,12 @@
 -- The floats of an input, one by one: how many there are, which stands where, and an array whose first ones they are.
 -- Assumes nothing.
-use Prim.Native.Nat.{ℕ, zero, suc, ◌+◌, ◌*◌, ◌-◌, ◌≤◌, ◌<◌}
+use Prim.Native.Nat.{ℕ, zero, suc, ◌+◌, ◌*◌, ◌<◌}
 use mathlib.Core.Path.{◌≡◌, refl, ap, sym, ◌∙◌}
-use mathlib.Core.List.{List}
+use mathlib.Core.List.{List, ◌++◌}
 use native.Mathlib.Omega.{arith}
 use lib.Ieee.{Float, nan}
-use lib.ListN.{length, get_or, take, drop, length-drop}
-use lib.Seq.{ext_get_or, get_or-take, length-take-le, take-length}
+use lib.ListN.{length, get_or, take}
+use lib.Seq.{ext_get_or, take_at}
 use Rattle.number_float.specs.Float.{float_at}
 use Rattle.meter_bytes.specs.Format.{floats_at}
 
@@ -23,14 +23,11 @@ floats_get input at (suc n) (suc k) b =
     let e : at + 4 + 4 * k ≡ at + 4 * suc k = omega arith in
     floats_get input (at + 4) n k (omega arith) ∙ ap (float_at input) e
 
-pub floats_first :
-    (input : List ℕ) (at n : ℕ) (out : List Float) → n ≤ length out →
-    ((k : ℕ) → k < n → get_or out k nan ≡ float_at input (at + 4 * k)) → take n out ≡ floats_at input at n
-floats_first input at n out long each =
-    let sized : length (take n out) ≡ n = length-take-le n out long in
-    ext_get_or nan (take n out) (floats_at input at n) (sized ∙ sym (floats_length input at n))
-    (λ k b. let l : k < n = omega arith in get_or-take n out k nan l ∙ each k l ∙ sym (floats_get input at n k l))
-
--- what is left of a list from a place on
-pub rest : (l : List ℕ) (a : ℕ) → take (length l - a) (drop a l) ≡ drop a l
-rest l a = ap (λ (n : ℕ). take n (drop a l)) (sym (length-drop a l)) ∙ take-length (drop a l)
+-- floats that are those of the input, each at its place, at the start of a list
+pub floats_begin :
+    (input : List ℕ) (at n : ℕ) (floats others : List Float) → length floats ≡ n →
+    ((k : ℕ) → k < n → get_or floats k nan ≡ float_at input (at + 4 * k)) → take n (floats ++ others) ≡ floats_at input at n
+floats_begin input at n floats others sized each =
+    take_at floats others n sized
+    ∙ ext_get_or nan floats (floats_at input at n) (sized ∙ sym (floats_length input at n))
+    (λ k b. let l : k < n = omega arith in each k l ∙ sym (floats_get input at n k l))

@@ -1,13 +1,14 @@
 // A meter month as bytes: the mark, CM or CF, the efficiency, the counts of its lists, and then the values that they count.
 #![tactic(auto)]
 
-ghost use Rattle.std.specs.Prelude.{◌≡◌, ◌&&◌, ◌+◌, ◌*◌, ◌≤◌, leb, length, take};
-ghost use Rattle.meter_hour.specs.declared.Kind.TheVariants.{CubicMetres, CubicFeet};
+ghost use Rattle.std.specs.Prelude.{◌≡◌, ◌&&◌, ◌+◌, ◌*◌, ◌≤◌, leb, length};
 ghost use Rattle.meter_series.specs.Series.{most_hours};
-ghost use Rattle.number_float.specs.Float.{float_bytes};
-ghost use Rattle.meter_bytes.specs.Format.{header_bytes, is_mark, is_other_mark, count_at, floats_at, value_at, lent_of, whole_of, counted_of, stated_of};
-ghost use Rattle.meter_bytes.specs.Asks.{Has, Count};
+ghost use Rattle.meter_bytes.specs.Format.{header_bytes, count_at, value_at, lent_of, whole_of, counted_of, stated_of};
+ghost use Rattle.meter_bytes.specs.Asks.{Has, Count, counts_of};
 
+mod floats;
+
+use crate::floats::Floats;
 use meter_hour::Kind;
 use number_float::FLOAT;
 use refusals::{Reason, Refusal};
@@ -34,46 +35,33 @@ const COUNTS_AT: usize = 4;
 // The bytes of each of these.
 const HALF: usize = 2;
 
-// The month that the input holds: the methane that it destroyed, or why it is refused.
+// The month that the input holds: the methane that it destroyed, or why it is refused. An input too short for a mark is no month.
+#[tactic(auto, using(crate::proofs::Headers::no_mark), unfolding(crate::specs::Format::stated_of))]
 pub fn stated(input: &[u8]) -> Result<Methane, Refusal>
     ensures { result ≡ stated_of input.now }
 {
-    if is_other_mark(input) {
-        return Err(Reason::UnknownMark.at(0));
-    }
-    if is_mark(input, b'F') {
-        return in_feet(input);
-    }
-    in_metres(input)
-}
-
-// Whether the input has a mark, and it is neither CM nor CF.
-fn is_other_mark(input: &[u8]) -> bool
-    ensures { result ≡ is_other_mark input.now }
-{
     if input.len() < MARK {
-        return false;
+        return Err(Reason::NoMonth.at(0));
     }
-    if is_mark(input, b'M') {
-        return false;
+    match &input[..MARK] {
+        b"CM" => counted(Kind::CubicMetres, input),
+        b"CF" => counted(Kind::CubicFeet, input),
+        _ => Err(Reason::UnknownMark.at(0)),
     }
-    !is_mark(input, b'F')
 }
 
-// Whether the input has the mark of C and a letter. A match on the slice's first two bytes is shorter, and its arms' goals were not proved.
-fn is_mark(input: &[u8], letter: u8) -> bool
-    ensures { result ≡ is_mark letter input.now }
+// The month of an input with this kind's mark.
+#[tactic(auto, using(crate::proofs::Headers::short_none, crate::proofs::Headers::counted_is))]
+fn counted(kind: Kind, input: &[u8]) -> Result<Methane, Refusal>
+    ensures { result ≡ counted_of kind input.now }
 {
-    if input.len() < MARK {
-        return false;
+    if input.len() < header(kind) {
+        return Err(Reason::NoMonth.at(0));
     }
-    if input[0] != b'C' {
-        return false;
-    }
-    input[1] == letter
+    whole(kind, input, Counts::read(kind, input))
 }
 
-// How many values each list of a month has. A meter in cubic metres has no temperatures and no pressures.
+// How many values each list of a month has; a meter in cubic metres has no temperatures and no pressures.
 #[derive(Clone, Copy, Debug, PartialEq, Eq)]
 struct Counts {
     flows: usize,
@@ -83,38 +71,31 @@ struct Counts {
     states: usize,
 }
 
-// A month in cubic metres: three counts.
-fn in_metres(input: &[u8]) -> Result<Methane, Refusal>
-    ensures { result ≡ counted_of CubicMetres input.now }
-{
-    if input.len() < METRES_HEADER {
-        return Err(Reason::NoMonth.at(0));
+impl Counts {
+    // Those of a header: three in cubic metres, and five in cubic feet.
+    fn read(kind: Kind, input: &[u8]) -> Counts
+        requires { header_bytes kind ≤ length input.now }
+        ensures said { result ≡ counts_of kind input.now }
+        ensures of_its_kind { Has kind result.temperatures result.pressures }
+        ensures of_two_bytes { Count result.flows × Count result.contents × Count result.temperatures × Count result.pressures × Count result.states }
+    {
+        match kind {
+            Kind::CubicMetres => Counts {
+                flows: count(input, 0),
+                contents: count(input, 1),
+                temperatures: 0,
+                pressures: 0,
+                states: count(input, 2),
+            },
+            Kind::CubicFeet => Counts {
+                flows: count(input, 0),
+                contents: count(input, 1),
+                temperatures: count(input, 2),
+                pressures: count(input, 3),
+                states: count(input, 4),
+            },
+        }
     }
-    let counts = Counts {
-        flows: count(input, 0),
-        contents: count(input, 1),
-        temperatures: 0,
-        pressures: 0,
-        states: count(input, 2),
-    };
-    whole(Kind::CubicMetres, input, counts)
-}
-
-// A month in cubic feet: five counts.
-fn in_feet(input: &[u8]) -> Result<Methane, Refusal>
-    ensures { result ≡ counted_of CubicFeet input.now }
-{
-    if input.len() < FEET_HEADER {
-        return Err(Reason::NoMonth.at(0));
-    }
-    let counts = Counts {
-        flows: count(input, 0),
-        contents: count(input, 1),
-        temperatures: count(input, 2),
-        pressures: count(input, 3),
-        states: count(input, 4),
-    };
-    whole(Kind::CubicFeet, input, counts)
 }
 
 // A count of the header; the first is count 0.
@@ -125,7 +106,7 @@ fn count(input: &[u8], index: usize) -> usize
     number_bytes::number(input, COUNTS_AT + HALF * index, HALF) as usize
 }
 
-// The bytes before the first flow.
+// The bytes before the first flow. It is a match, since a trait for two kinds with a number each would be longer.
 fn header(kind: Kind) -> usize
     ensures { result ≡ header_bytes kind }
 {
@@ -136,6 +117,7 @@ fn header(kind: Kind) -> usize
 }
 
 // The month of an input, if it is as long as its counts say; more values than the longest month has hours are none.
+#[tactic(auto, using(crate::proofs::Long::readings_none, crate::proofs::Long::others_none), unfolding(crate::specs::Format::whole_of))]
 fn whole(kind: Kind, input: &[u8], counts: Counts) -> Result<Methane, Refusal>
     requires of_two_bytes { Count counts.flows × Count counts.contents × Count counts.temperatures × Count counts.pressures × Count counts.states }
     requires of_its_kind { Has kind counts.temperatures counts.pressures }
@@ -162,7 +144,9 @@ fn fit_a_month(one: usize, other: usize) -> bool
     one <= meter_series::MOST_HOURS && other <= meter_series::MOST_HOURS
 }
 
-// The month of an input with these counts; what follows its floats are the states.
+// The month of an input with these counts; what follows its floats are the states. A match tells the two kinds apart, since each has a function of its own
+// in the paper and in C, with its own lists.
+#[tactic(auto, unfolding(crate::specs::Format::lent_of, crate::specs::Format::month_in))]
 fn lent(kind: Kind, input: &[u8], counts: Counts) -> Result<Methane, Refusal>
     requires states_within { value_at kind (counts.flows + counts.contents + counts.temperatures + counts.pressures) ≤ length input.now }
     requires fit_a_month { (counts.flows ≤ most_hours) × (counts.contents ≤ most_hours)
@@ -175,36 +159,23 @@ fn lent(kind: Kind, input: &[u8], counts: Counts) -> Result<Methane, Refusal>
     let temperatures_at = contents_at + FLOAT * counts.contents;
     let pressures_at = temperatures_at + FLOAT * counts.temperatures;
     let states_at = pressures_at + FLOAT * counts.pressures;
-    let all_flows = floats(input, flows_at, counts.flows);
-    let all_contents = floats(input, contents_at, counts.contents);
-    let all_temperatures = floats(input, temperatures_at, counts.temperatures);
-    let all_pressures = floats(input, pressures_at, counts.pressures);
+    let flows = Floats::read(input, flows_at, counts.flows);
+    let contents = Floats::read(input, contents_at, counts.contents);
+    let temperatures = Floats::read(input, temperatures_at, counts.temperatures);
+    let pressures = Floats::read(input, pressures_at, counts.pressures);
     let efficiency = number_bytes::number(input, EFFICIENCY_AT, HALF) as u32;
-    let flows = &all_flows[..counts.flows];
-    let contents = &all_contents[..counts.contents];
     let states = &input[states_at..];
     match kind {
-        Kind::CubicMetres => meter_month::month(flows, contents, states, efficiency),
+        Kind::CubicMetres => {
+            meter_month::month(flows.values(), contents.values(), states, efficiency)
+        }
         Kind::CubicFeet => meter_month::feet_month(
-            flows,
-            contents,
-            &all_temperatures[..counts.temperatures],
-            &all_pressures[..counts.pressures],
+            flows.values(),
+            contents.values(),
+            temperatures.values(),
+            pressures.values(),
             states,
             efficiency,
         ),
     }
-}
-
-// Floats of the input, one after the other from `at` on.
-fn floats(input: &[u8], at: usize, count: usize) -> [f32; meter_series::MOST_HOURS]
-    requires { (count ≤ most_hours) × (at + float_bytes * count ≤ length input.now) }
-    ensures result_len { length result ≡ most_hours }
-    ensures result_value { take count result ≡ floats_at input.now at count }
-{
-    let mut out = [0.0f32; meter_series::MOST_HOURS];
-    for i in 0..count {
-        out[i] = number_float::float_at(input, at + FLOAT * i);
-    }
-    out
 }
