@@ -50,7 +50,7 @@ fn state_input<R: Read>(reader: &mut R, buffer: &mut [u8]) -> io::Result<Result<
     Ok(meter_bytes::stated(&buffer[..count]))
 }
 
-// How many bytes were read up to the input's end or the buffer's.
+// How many bytes were read up to the input's end or the buffer's. The library's `read_to_end` does this for a `Vec`, and the project has no heap.
 fn read_input<R: Read>(reader: &mut R, buffer: &mut [u8]) -> io::Result<usize>
     ensures { Room result (length buffer.new) }
 {

@@ -9,6 +9,7 @@ use units::Methane;
 pub const TEXT_BYTES: usize = 35;
 
 // Lays the text at the start of a page, and returns its length.
+#[tactic(auto, using(print_refusal::proofs::Lengths::refusal_most))]
 pub fn lay_answer(answer: Result<Methane, Refusal>, page: &mut [u8]) -> usize
     requires { text_bytes ≤ length page.old }
     ensures { Lays page.old 0 (answer_text answer) result page.new }
@@ -19,6 +20,7 @@ pub fn lay_answer(answer: Result<Methane, Refusal>, page: &mut [u8]) -> usize
     }
 }
 
+#[tactic(auto, using(print_page::proofs::Lengths::wide))]
 fn lay_destroyed(grams: u64, page: &mut [u8]) -> usize
     requires { text_bytes ≤ length page.old }
     ensures { Lays page.old 0 (destroyed_text grams) result page.new }
