@@ -65,7 +65,7 @@ pattern n lo hi =
     join z h = omega arith
 
 -- ---- at a float
-abbrev Cut : Float → ℕ → Type 0
+abbrev pub Cut : Float → ℕ → Type 0
 Cut x b = T (not (is_nan x)) × (b / 2 ^ 52 ≤ 1075) × (1075 - b / 2 ^ 52 < 64) × (bit_or (bit_and b (2 ^ 52 - 1)) (2 ^ 52) / 2 ^ (1075 - b / 2 ^ 52) ≡ times_down 1 x)
 
 whole_units : (a d : ℕ) → 0 < d → a * 2 ^ 1074 / d / 2 ^ 1074 ≡ a / d
