@@ -54,8 +54,6 @@ pub fn year(book: &Book<'_>, year: u64) -> Result<Figures, Refusal>
 fn figures_of(book: &Book<'_>, year: Year) -> Figures
     ensures { result ≡ figures_of book.now year }
 {
-    book.known();
-    let _ = year.number();
     let sums = year_lines::sums_of(book, year);
     let operator = year_credit::operator_of(book, year);
     let net = tonnes::net(year_credit::total(sums.baseline, operator));

@@ -5,12 +5,14 @@ use mathlib.Core.Bool.{Bool, true, false, cond}
 use mathlib.Core.Path.{ap, ◌≡◌, ◌∙◌}
 use native.Mathlib.Omega.{arith}
 use borrow.Author.Rules.{sfits_of}
-use mir.Facts.{to_z-of_z, to_z_pos}
+use mir.Facts.{to_z-of_z}
 use mir.Syntax.{w64}
 use mir.Val.{to_z, of_z, SFits}
 use lib.Dec.{ltb}
 use lib.IntN.{ℤ, pos, negsuc, sub_ℕ, nat_abs, ◌+ℤ◌, ◌-ℤ◌}
 use lib.Signed.{mag, le_z}
+use Rattle.std.specs.Int.{int_min}
+use Rattle.std.proofs.lemmas.Int.{ints}
 use Rattle.units.specs.declared.co2e.Co2e.{Co2e}
 use Rattle.year_credit.specs.Asks.{sums_most, OperatorFits}
 use Rattle.year_credit.specs.Credit.{modelled_of, metered_of, lesser_of, reduction_of, total_of}
@@ -40,12 +42,13 @@ lesser_size x y = go (le_z x y)
     go true = omega arith
     go false = omega arith
 
+-- the library's lesser of two is that of the definition
+pub lesser_min : (x y : ℤ) → int_min x y ≡ lesser_of x y
+lesser_min x y = grind (arith, ints)
+
 pub from_zero : (z : ℤ) → nat_abs z ≤ mag z + 1
 from_zero (pos n) = omega arith
 from_zero (negsuc n) = omega arith
-
-pub held : (n : ℕ) → n < sums_most → to_z w64 n ≡ pos n
-held n small = to_z_pos w64 {n = n} (omega arith)
 
 back : (z : ℤ) → mag z < 2 ^ 62 → to_z w64 (of_z w64 z) ≡ z
 back z small = to_z-of_z {w = w64} (sfits_of (omega arith))
@@ -65,9 +68,6 @@ module _ {x y : ℤ} (z : ℤ) (n : ℕ) (x-is : x ≡ z) (y-is : y ≡ pos n) (
 
   pub difference_is : to_z w64 (of_z w64 x) -ℤ to_z w64 (of_z w64 y) ≡ z -ℤ pos n
   difference_is = rw (x-is, y-is, back z x-small, back (pos n) (omega arith))
-
-  pub sum_fits : SFits w64 (to_z w64 (of_z w64 x) +ℤ to_z w64 (of_z w64 y))
-  sum_fits = rw sum_is (sfits_of (omega (arith, plus_size z n)))
 
   pub difference_fits : SFits w64 (to_z w64 (of_z w64 x) -ℤ to_z w64 (of_z w64 y))
   difference_fits = rw difference_is (sfits_of (omega (arith, minus_size z n)))
@@ -119,16 +119,10 @@ module _ (baseline : Co2e) (operator : Operator) (small : baseline.0 < sums_most
         fits.baseline_co2,
       )
 
-  pub added_fits : SFits w64 (to_z w64 (of_z w64 x) +ℤ to_z w64 (of_z w64 y))
-  added_fits = sum_fits (reduction_of baseline operator) operator.baseline_co2.0 x-is y-is reduction_small fits.baseline_co2
-
   added_is : to_z w64 (of_z w64 x) +ℤ to_z w64 (of_z w64 y) ≡ added
   added_is = sum_is (reduction_of baseline operator) operator.baseline_co2.0 x-is y-is reduction_small fits.baseline_co2
 
   module _ {z : ℤ} (z-is : z ≡ pos operator.project_co2.0) where
-    pub total_fits : SFits w64 (to_z w64 (of_z w64 (to_z w64 (of_z w64 x) +ℤ to_z w64 (of_z w64 y))) -ℤ to_z w64 (of_z w64 z))
-    total_fits = difference_fits added operator.project_co2.0 added_is z-is added_small fits.project_co2
-
     pub total_read :
         to_z w64 (of_z w64 (to_z w64 (of_z w64 (to_z w64 (of_z w64 x) +ℤ to_z w64 (of_z w64 y))) -ℤ to_z w64 (of_z w64 z))) ≡ total_of baseline operator
     unfolding total_of

@@ -6,6 +6,10 @@ use Rattle.year_credit.specs.{Credit.metered_of, declared.Operator.Operator}
 abbrev pub sums_most : ℕ
 sums_most = 2 ^ 60
 
+-- what a figure of one month stays below
+abbrev pub month_most : ℕ
+month_most = 2 ^ 42
+
 pub record OperatorFits (operator : Operator) : Type 0 where
   pub project_methane : operator.project_methane.0 < sums_most
   pub baseline_co2 : operator.baseline_co2.0 < sums_most

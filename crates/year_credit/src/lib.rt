@@ -5,7 +5,7 @@ ghost use Rattle.std.specs.Prelude.{◌≡◌, ◌≤◌, ◌<◌, ◌^◌, pos}
 ghost use Rattle.record_table.specs.Table.{months};
 ghost use Rattle.year_months.specs.Series.{amount_of};
 ghost use Rattle.year_credit.specs.Credit.{grams_of, destroyed_at, operator_of, modelled_of, metered_of, lesser_of, total_of};
-ghost use Rattle.year_credit.specs.Asks.{sums_most, OperatorFits};
+ghost use Rattle.year_credit.specs.Asks.{sums_most, month_most, OperatorFits};
 
 use book::Book;
 use units::{Co2e, Methane};
@@ -25,11 +25,12 @@ pub struct Operator {
 }
 
 // What the operator entered for the year, its twelve months together.
+#[tactic(auto, using(laws::proofs::Counting::sum_none, laws::proofs::Counting::sum_more, crate::proofs::Ranges::project_methane_most, crate::proofs::Ranges::baseline_co2_most, crate::proofs::Ranges::project_co2_most))]
 pub fn operator_of(book: &Book<'_>, year: Year) -> Operator
-    ensures { result ≡ operator_of book.now year }
+    ensures value { result ≡ operator_of book.now year }
+    ensures fits { OperatorFits result }
 {
     book.known();
-    let _ = year.number();
     let before = year.months_before();
     let mut project_methane = Co2e::of_grams(0);
     let mut baseline_co2 = Co2e::of_grams(0);
@@ -52,15 +53,18 @@ pub fn operator_of(book: &Book<'_>, year: Year) -> Operator
 
 fn grams(kilograms: Option<u64>) -> Co2e
     requires { amount_of kilograms < 2 ^ 32 }
-    ensures { result ≡ grams_of kilograms }
+    ensures value { result ≡ grams_of kilograms }
+    ensures small { result.0 < month_most }
 {
     Co2e::of_grams(KILOGRAM * kilograms.unwrap_or(0))
 }
 
 // All devices; one without MT counts 0.
+#[tactic(auto, using(laws::proofs::Counting::sum_none, laws::proofs::Counting::sum_more, crate::proofs::Ranges::destroyed_most_lem), unfolding(crate::specs::Credit::destroyed_at))]
 fn destroyed_in(book: &Book<'_>, month: usize) -> Methane
     requires month_within { month ≤ months }
-    ensures { result ≡ destroyed_at book.now month }
+    ensures value { result ≡ destroyed_at book.now month }
+    ensures small { result.0 < month_most }
 {
     book.known();
     let mut destroyed = Methane::of_grams(0);
@@ -89,13 +93,11 @@ fn modelled(baseline: Co2e, operator: Operator) -> i64
     signed(baseline) - signed(operator.project_methane)
 }
 
+#[tactic(auto, using(crate::proofs::Signs::lesser_min))]
 fn lesser(modelled: i64, metered: i64) -> i64
     ensures { result ≡ lesser_of modelled metered }
 {
-    if modelled <= metered {
-        return modelled;
-    }
-    metered
+    modelled.min(metered)
 }
 
 // The modelled figure and the total may be below 0.
@@ -103,7 +105,7 @@ fn signed(mass: Co2e) -> i64
     requires { mass.0 < sums_most }
     ensures { result ≡ pos mass.0 }
 {
-    mass.grams() as i64
+    mass.grams().cast_signed()
 }
 
 impl Operator {

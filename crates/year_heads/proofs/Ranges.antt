@@ -1,10 +1,7 @@
 -- How large the heads of a valid book and their sum over a year can be, and the sum of one category as the array has it. Assumes nothing.
-use Prim.Native.Nat.{ℕ, ◌+◌, ◌*◌, ◌-◌, ◌≤◌}
+use Prim.Native.Nat.{ℕ, ◌+◌, ◌*◌, ◌≤◌}
 use mathlib.Core.List.{List}
-use mathlib.Core.Path.{ap, ◌≡◌, ◌∙◌}
-use native.Mathlib.Nat.{zero-add}
 use native.Mathlib.Omega.{arith}
-use lib.ListN.{get_or}
 use lib.Dec.{lit≤}
 use Rattle.laws.proofs.Counting.{sum_most}
 use Rattle.calendar.specs.Days.{months_in_year}
@@ -16,7 +13,6 @@ use Rattle.year_months.specs.Asks.{InPeriod}
 use Rattle.year_months.specs.Series.{months_before}
 use Rattle.year_months.proofs.Ranges.{amount_most}
 use Rattle.year_heads.specs.Heads.{head_at, heads_of}
-use Rattle.year_heads.specs.Asks.{HoldsHeads}
 
 module _ (book : List ℕ) (v : Valid book) where
   pub head_most : (category m : ℕ) → category ≤ categories → m ≤ months → head_at book category m ≤ 100000
@@ -28,8 +24,3 @@ module _ (book : List ℕ) (v : Valid book) where
   heads_most_lem year period category there =
       sum_most (λ m. head_at book category (months_before year + m)) 100000 months_in_year
       (λ m low high. head_most category (months_before year + m) there (omega (arith, period.high)))
-
-pub heads_at :
-    (book : List ℕ) (year category : ℕ) {heads : List ℕ} → HoldsHeads book year heads → 1 ≤ category → category ≤ categories →
-    get_or heads (category - 1) 0 ≡ heads_of book year category
-heads_at book year category held low high = held.each category low high ∙ ap (heads_of book year) (zero-add category)

@@ -22,12 +22,12 @@ pub fn by_category(book: &Book<'_>, year: Year) -> [u64; CATEGORIES]
     heads
 }
 
+#[tactic(auto, using(laws::proofs::Counting::sum_none, laws::proofs::Counting::sum_more), unfolding(crate::specs::Heads::heads_of))]
 fn of_category(book: &Book<'_>, year: Year, category: usize) -> u64
     requires category_within { category ≤ categories }
     ensures { result ≡ heads_of book.now year category }
 {
     book.known();
-    let _ = year.number();
     let before = year.months_before();
     let mut heads = 0;
     for month in 1..=MONTHS_IN_YEAR {

@@ -12,7 +12,7 @@ use Rattle.units.specs.Grams.{potential, b0_rule_of}
 use Rattle.units.specs.declared.solids.Solids.{Solids}
 use Rattle.calendar.specs.Days.{months_in_year}
 use Rattle.lagoon_run.proofs.Conserved.{conserved, entered_at_most}
-use Rattle.lagoon_month.specs.Asks.{heads_most, entered_most}
+use Rattle.lagoon_month.specs.Asks.{heads_most, entered_most, grams_most}
 use Rattle.lagoon_month.proofs.Entry.{four}
 use Rattle.lagoon_run.specs.Asks.{RunFits}
 use Rattle.lagoon_factor.specs.Rule.{million}
@@ -124,6 +124,9 @@ module _ (book : List ℕ) (v : Valid book) (line : ℕ) (there : line ≤ lines
         is ∙ ap (run_from from (months_of list)) held.long ∙
         same_run from (months_of list) (after (months_before year) (month_at book line)) months_in_year held.each ∙
         ap (λ (s : Standing). run_from s (after (months_before year) (month_at book line)) months_in_year) handed_on
+
+    pub degraded_fits : {totals : Totals} → totals ≡ run_from from (months_of list) (length list) → totals.degraded.0 < grams_most
+    degraded_fits is = rw (year_run is) (omega (arith, (year_most year period).degraded))
 
 by_most : (seen : Option ℕ) (lagoon other : Sums) → Most line_most lagoon → Most line_most other → Most line_most (by_system seen lagoon other)
 by_most None lagoon other l o = record { entered = omega arith; degraded = omega arith; removed = omega arith; carried = omega arith; baseline = omega arith }

@@ -13,12 +13,10 @@ use Rattle.lagoon_run.specs.Run.{run_from, run_of, year_of}
 use Rattle.lagoon_month.specs.declared.Standing.{Standing}
 use Rattle.lagoon_run.specs.declared.Totals.{Totals}
 use Rattle.record_table.specs.Table.{lines}
-use Rattle.book_herd.specs.Herd.{system_of}
-use Rattle.std.specs.Prelude.{Option, Some, None}
 use Rattle.calendar.specs.Days.{months_in_year}
 use Rattle.year_months.specs.Series.{months_before, months_through}
 use Rattle.year_lines.specs.Asks.{Handed, Standings}
-use Rattle.year_lines.specs.Lines.{anaerobic, month_at}
+use Rattle.year_lines.specs.Lines.{month_at}
 
 -- before the first month nothing stands
 pub none_handed : (book : List ℕ) {empty : Standing} → empty ≡ empty_of → Standings book 0 (replicate lines empty)
@@ -36,20 +34,6 @@ year_handed book line year low is = λ a.
     let e : months_before year + months_in_year ≡ months_through year = omega arith in
     ap (λ (t : Totals). t.standing) is ∙ sym (subst (λ (n : ℕ). (run_of (month_at book line) n).standing ≡ (year_of (month_at book line) year).standing) e
     (joined empty_of (month_at book line) (months_before year) months_in_year).standing)
-
--- what the code read of a line's system says whether it hands anything on
-module _ (book : List ℕ) (line : ℕ) {seen : Option ℕ} (read : seen ≡ system_of book line) where
-  pub handed_absent : (year : ℕ) (standing : Standing) → seen ≡ None → Handed book year line standing
-  handed_absent year standing e = λ a.
-      let both : None ≡ Some anaerobic = sym e ∙ read ∙ a in let z : ◌≡◌ {A = ℕ} 0 1 = cc in absurd (omega arith)
-
-  module _ {system : ℕ} (value : seen ≡ Some system) where
-    pub handed_other : (year : ℕ) (standing : Standing) → (system ≡ anaerobic → ⊥) → Handed book year line standing
-    handed_other year standing other = λ a.
-        let both : Some system ≡ Some anaerobic = sym value ∙ read ∙ a in let z : system ≡ anaerobic = cc in absurd (other z)
-
-    pub stands : system ≡ anaerobic → system_of book line ≡ Some anaerobic
-    stands z = sym read ∙ value ∙ ap Some z
 
 -- a walk over the lines that has passed some: those are renewed, and the others are as the year before left them
 pub record Renewed (book : List ℕ) (year passed : ℕ) (standings : List Standing) : Type 0 where

@@ -2,7 +2,7 @@
 // for the others.
 #![tactic(auto)]
 
-ghost use Rattle.std.specs.Prelude.{◌≡◌, ℕ, ◌-◌, ◌≤◌, Some};
+ghost use Rattle.std.specs.Prelude.{◌≡◌, ℕ, ◌-◌, ◌≤◌, ◌<◌, ◌^◌, Some};
 ghost use Rattle.lagoon_month.specs.Asks.{heads_most};
 ghost use Rattle.lagoon_month.specs.declared.Month.{Month};
 ghost use Rattle.lagoon_run.specs.Run.{no_month};
@@ -39,7 +39,8 @@ const CONVERSION_PARTS: u64 = 10_000;
 
 // All lines of a year. The years before it are walked first, from empty lagoons, for what each line hands on.
 pub fn sums_of(book: &Book<'_>, year: Year) -> Sums
-    ensures { result ≡ sums_of book.now year all }
+    ensures value { result ≡ sums_of book.now year all }
+    ensures small { result.baseline.0 < 2 ^ 60 }
 {
     let mut standings = [Standing::empty(); LINES];
     for earlier in 1..year.number() {
@@ -79,9 +80,11 @@ impl<'a, 'b> YearFigures<'a, 'b> {
 
     // All lines, each from the standing that the year before handed on. What it hands on itself takes that
     // standing's place.
+    #[tactic(auto, using(crate::proofs::Bounds::sums_fit, crate::proofs::Bounds::sums_most_lem, crate::proofs::Carrying::renewed_none, crate::proofs::Carrying::renewed_all), unfolding(crate::specs::Lines::sums_over))]
     fn sums_from(&self, standings: &mut [Standing; LINES]) -> Sums
         requires standings { Standings self.now.book.now (self.now.year - 1) standings.old }
         ensures sums { result ≡ sums_of self.now.book.now self.now.year all }
+        ensures small { result.baseline.0 < 2 ^ 60 }
         ensures handed_on { Standings self.now.book.now self.now.year standings.new }
     {
         self.book.known();
@@ -94,6 +97,7 @@ impl<'a, 'b> YearFigures<'a, 'b> {
 
     // One line, by its system. What an anaerobic line hands on takes the place of the standing that it starts
     // from; nothing reads that of a line of another system.
+    #[tactic(auto, using(crate::proofs::Own::own, crate::proofs::Bounds::months_fit, crate::proofs::Bounds::year_run, crate::proofs::Bounds::degraded_fits, crate::proofs::BySystem::absent_is, crate::proofs::BySystem::anaerobic_is, crate::proofs::BySystem::other_is, crate::proofs::Carrying::year_handed))]
     fn line_from(&self, line: usize, standing: &mut Standing) -> Sums
         requires line_of_book { line ≤ lines }
         requires handed { Handed self.now.book.now (self.now.year - 1) line standing.old }
@@ -114,7 +118,7 @@ impl<'a, 'b> YearFigures<'a, 'b> {
     }
 
     // The months of an anaerobic line in the year, first to last.
-    #[tactic(auto, using(year_months::proofs::Arrays::array_begins, year_months::proofs::Arrays::array_more, year_months::proofs::Arrays::array_full))]
+    #[tactic(auto, using(year_months::proofs::Arrays::array_begins, year_months::proofs::Arrays::array_full, crate::proofs::Own::own))]
     fn months_of_line(&self, line: usize, numbers: Line) -> [Month; MONTHS_IN_YEAR]
         requires line_of_book { line ≤ lines }
         requires is_anaerobic { system_of self.now.book.now line ≡ Some anaerobic }
@@ -157,6 +161,7 @@ impl<'a, 'b> YearFigures<'a, 'b> {
 }
 
 // A line of another system, by the sum of the year's heads: each division rounds down.
+#[tactic(auto, unfolding(crate::specs::Lines::converted_of), using(crate::proofs::Bounds::converted_most, crate::proofs::Bounds::daily_most, crate::proofs::Bounds::product_year, lagoon_month::proofs::Entry::four))]
 fn other(numbers: Line, heads: u64) -> Sums
     requires in_ranges { (heads ≤ heads_most) × (numbers.solids ≤ 2000) × (numbers.mass ≤ 20000) × (numbers.share ≤ 10000) }
     requires rest_in_ranges { (numbers.b0 ≤ 100) × (numbers.conversion ≤ 10000) }

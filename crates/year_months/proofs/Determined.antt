@@ -21,10 +21,10 @@ pub year_number_one : OneAnswer YearNumber.Learnt
 year_number_one κ a x y s t p q = one p.0 q.0
 
 pub months_before_one : OneAnswer MonthsBefore.Learnt
-months_before_one κ a x y s t = one
+months_before_one κ a x y s t p q = one p.0 q.0
 
 pub months_through_one : OneAnswer MonthsThrough.Learnt
-months_through_one κ a x y s t = one
+months_through_one κ a x y s t p q = one p.0 q.0
 
 -- an array that holds a series at as many numbers as it has entries is one
 pub same_array :

@@ -21,7 +21,6 @@ pub fn days(book: &Book<'_>, year: Year) -> [u64; MONTHS_IN_YEAR]
     ensures { HoldsYear ℕ 0 year (days_at book.now) result }
 {
     book.known();
-    let _ = year.number();
     let first_year = book_slots::first_year(book).unwrap_or(0);
     let first_month = book_slots::first_month(book).unwrap_or(0);
     lengths(first_year, first_month, year.months_before())
@@ -47,7 +46,6 @@ fn lengths(first_year: u64, first_month: u64, before: usize) -> [u64; MONTHS_IN_
 pub fn factors(book: &Book<'_>, year: Year) -> [u64; MONTHS_IN_YEAR]
     ensures { HoldsYear ℕ 0 year (factor_at book.now) result }
 {
-    let _ = year.number();
     let before = year.months_before();
     let mut factors = [0u64; MONTHS_IN_YEAR];
     for (passed, factor) in factors.iter_mut().enumerate() {

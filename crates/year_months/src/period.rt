@@ -32,7 +32,7 @@ impl Year {
         Year { number }
     }
 
-    // A function whose proof needs that the year is one of the crediting period asks for the number, which says so.
+    // Its number and its months say that a year is one of the crediting period, for a function whose proof needs it.
     pub fn number(self) -> usize
         ensures value { result ≡ self }
         ensures in_period { InPeriod self }
@@ -41,13 +41,15 @@ impl Year {
     }
 
     pub fn months_before(self) -> usize
-        ensures { result ≡ months_before self }
+        ensures value { result ≡ months_before self }
+        ensures in_period { InPeriod self }
     {
         MONTHS_IN_YEAR * (self.number - 1)
     }
 
     pub fn months_through(self) -> usize
-        ensures { result ≡ months_through self }
+        ensures value { result ≡ months_through self }
+        ensures in_period { InPeriod self }
     {
         MONTHS_IN_YEAR * self.number
     }

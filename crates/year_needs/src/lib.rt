@@ -22,7 +22,7 @@ pub fn complete(book: &Book<'_>, year: Year) -> Result<(), Refusal>
     if book_slots::first_year(book).is_none() || !any_line(book) {
         return Err(Reason::Lacking.at(0));
     }
-    match first_lacking(book, year, &lined_categories(book)) {
+    match LinedCategories::of(book).first_lacking(year) {
         Some(month) => Err(Reason::Lacking.at(month)),
         None => Ok(()),
     }
@@ -34,49 +34,61 @@ fn any_line(book: &Book<'_>) -> bool
     (1..record_table::LINES + 1).any(|line| book_herd::category(book, line).is_some())
 }
 
-// Which categories have a line: looked at once, and not again in each month.
-#[tactic(auto, using(crate::proofs::Ranges::category_amount))]
-fn lined_categories(book: &Book<'_>) -> [bool; CATEGORY_FLAGS]
-    ensures { Lined book.now lines result }
-{
-    book.known();
-    let mut lined = [false; CATEGORY_FLAGS];
-    for line in 1..=record_table::LINES {
-        let category = book_herd::category(book, line).unwrap_or(0) as usize;
-        lined[category] = true;
+// A book, with a flag for each of its categories that has a line: looked at once, and not again in each month.
+#[derive(Drop)]
+struct LinedCategories<'a, 'b> {
+    book: &'a Book<'b>,
+    flags: [bool; CATEGORY_FLAGS],
+    ghost lined: { Lined book.now lines flags },
+}
+
+impl<'a, 'b> LinedCategories<'a, 'b> {
+    #[tactic(auto, using(crate::proofs::Ranges::category_amount))]
+    fn of(book: &'a Book<'b>) -> LinedCategories<'a, 'b>
+        ensures { result.book.now ≡ book.now }
+    {
+        book.known();
+        let mut flags = [false; CATEGORY_FLAGS];
+        // A line is asked for by its number.
+        for line in 1..=record_table::LINES {
+            let category = book_herd::category(book, line).unwrap_or(0) as usize;
+            flags[category] = true;
+        }
+        LinedCategories { book, flags }
     }
-    lined
-}
 
-// The lowest month through the year's end that lacks a record.
-fn first_lacking(book: &Book<'_>, year: Year, lined: &[bool]) -> Option<usize>
-    requires lined { Lined book.now lines lined.now }
-    ensures { result ≡ lacking_month book.now year }
-{
-    let _ = year.number();
-    let past = year.months_through() + 1;
-    (1..past).find(|month| is_lacking(book, year, *month, lined))
-}
+    // The lowest month through the year's end that lacks a record.
+    fn first_lacking(&self, year: Year) -> Option<usize>
+        ensures { result ≡ lacking_month self.now.book.now year }
+    {
+        let past = year.months_through() + 1;
+        (1..past).find(|month| self.is_lacking(year, *month))
+    }
 
-#[tactic(auto, unfolding(crate::specs::Complete::lacks))]
-fn is_lacking(book: &Book<'_>, year: Year, month: usize, lined: &[bool]) -> bool
-    requires month_within { month ≤ months }
-    requires lined { Lined book.now lines lined.now }
-    ensures { result ≡ lacks book.now year month }
-{
-    book_slots::temperature(book, month).is_none()
-        || is_headless(book, month, lined)
-        || year.months_before() < month && book_slots::project_methane(book, month).is_none()
-}
+    #[tactic(auto, unfolding(crate::specs::Complete::lacks))]
+    fn is_lacking(&self, year: Year, month: usize) -> bool
+        requires month_within { month ≤ months }
+        ensures { result ≡ lacks self.now.book.now year month }
+    {
+        book_slots::temperature(self.book, month).is_none()
+            || self.is_headless(month)
+            || year.months_before() < month
+                && book_slots::project_methane(self.book, month).is_none()
+    }
 
-// Whether the category of a line has no head count in the month.
-fn is_headless(book: &Book<'_>, month: usize, lined: &[bool]) -> bool
-    requires month_within { month ≤ months }
-    requires lined { Lined book.now lines lined.now }
-    ensures { result ≡ headless book.now month }
-{
-    book.known();
-    (1..CATEGORY_FLAGS).any(|category| is_uncounted(book, category, month, lined[category]))
+    // Whether the category of a line has no head count in the month.
+    fn is_headless(&self, month: usize) -> bool
+        requires month_within { month ≤ months }
+        ensures { result ≡ headless self.now.book.now month }
+    {
+        self.book.known();
+        (1..CATEGORY_FLAGS).any(|category| is_uncounted(
+            self.book,
+            category,
+            month,
+            self.flags[category],
+        ))
+    }
 }
 
 fn is_uncounted(book: &Book<'_>, category: usize, month: usize, lined: bool) -> bool

@@ -20,24 +20,23 @@ pub fn fit(book: &Book<'_>) -> Result<(), Refusal>
     ensures { result ≡ fit_of book.now }
 {
     let shares = shares(book);
-    for category in 1..=record_table::CATEGORIES {
-        if WHOLE_SHARE < shares[category] {
-            return Err(Reason::OverShared.at(category));
-        }
+    match shares[1..].iter().position(|share| WHOLE_SHARE < *share) {
+        Some(passed) => Err(Reason::OverShared.at(passed + 1)),
+        None => Ok(()),
     }
-    Ok(())
 }
 
 // The sum of each category's shares.
+#[tactic(auto, using(crate::proofs::Ranges::share_ranged))]
 fn shares(book: &Book<'_>) -> [u64; CATEGORY_SUMS]
     ensures { Shared book.now lines result }
 {
     book.known();
     let mut shares = [0u64; CATEGORY_SUMS];
+    // A line is asked for by its number, and its category is one.
     for line in 1..=record_table::LINES {
         let numbers = book_herd::line_at(book, line);
-        let category = numbers.category as usize;
-        shares[category] = shares[category] + numbers.share;
+        shares[numbers.category as usize] += numbers.share;
     }
     shares
 }

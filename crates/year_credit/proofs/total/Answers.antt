@@ -10,14 +10,13 @@ use Rattle.year_credit.proofs.total.Goals as goal
 
 pub returns : goal.returns
 returns c =
-    let reduced : c.lesser-reduction.result ≡ reduction_of c.args.baseline c.args.operator = let operator = c.args.operator in
     let baseline = c.args.baseline in
+    let operator = c.args.operator in
     let fits = c.requires.operator_fits in
+    let reduced : c.lesser-reduction.result ≡ reduction_of baseline operator =
     lesser_is c.modelled.result c.signed.result (modelled_of baseline operator) (pos (metered_of operator).0)
     (read_back (modelled_of baseline operator) c.modelled.ensures
     (omega (arith, minus_size (pos baseline.0) operator.project_methane.0, c.requires.baseline_fits, fits.project_methane)))
-    (read_back (pos (metered_of operator).0) (c.signed.ensures ∙ ap (λ (m : Co2e). pos m.0) c.metered.ensures)
-    (omega (arith, fits.metered)))
+    (read_back (pos (metered_of operator).0) (c.signed.ensures ∙ ap (λ (m : Co2e). pos m.0) c.metered.ensures) (omega (arith, fits.metered)))
     c.lesser-reduction.ensures in
-    total_read c.args.baseline c.args.operator c.requires.baseline_fits c.requires.operator_fits reduced c.signed-2.ensures
-    c.signed-3.ensures
+    total_read baseline operator c.requires.baseline_fits fits reduced c.signed-2.ensures c.signed-3.ensures

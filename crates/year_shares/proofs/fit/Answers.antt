@@ -1,38 +1,20 @@
--- `year_shares::fit` meets its contract: the search passes each category whose shares do not sum above the whole.
--- Assumes nothing.
-use mathlib.Core.Path.{ap, sym, ◌∙◌, ◌≡◌}
-use Prim.Native.Nat.{◌+◌}
-use native.Mathlib.Omega.{arith}
-use borrow.Author.Tests.{le-ltb, lt-ltb}
-use lib.Dec.{ltb}
-use lib.ListN.{get_or}
-use Rattle.laws.proofs.Counting.{begins, found, none, passed}
-use Rattle.record_table.specs.Table.{categories}
-use Rattle.year_shares.specs.Shares.{over_of, shares_of, whole_share}
-use Rattle.year_shares.proofs.Sharing.{shared_all, over_is, fits_is}
+-- `year_shares::fit` meets its contract: what `position` says of the sums of the categories. Assumes nothing.
+use mathlib.Core.Path.{ap, sym, ◌∙◌}
+use borrow.Author.Rules.{rules}
+use borrow.Author.Tests.{tests}
+use Rattle.std.proofs.lemmas.Iterator.{IsFirst-from_position, YieldsList-from_slice}
+use Rattle.year_shares.proofs.Sharing.{Above, Within, by_position, its_slice, position_is}
 use Rattle.year_shares.proofs.fit.Goals as goal
 
-pub loop-category-init : goal.loop-category-init
-loop-category-init c = (omega arith, omega arith, begins categories _)
+pub returns-in-Some : goal.returns-in-Some
+returns-in-Some c =
+    rw c.at.ensures
+    (ap by_position (sym c.in-Some.is) ∙ position_is c.args.book.now c.shares-shares.ensures c.position.result
+    (IsFirst-from_position _ _ c.position.result Above Within c.position.ensures.ran (YieldsList-from_slice _ (c.iter.ensures.rest ∙ its_slice c.args.book.now c.shares-shares.ensures))
+    (λ x q k. search (rules, tests)) (λ x q k. search (rules, tests))))
 
-pub returns-then-shares-category-gt-WHOLE_SHARE : goal.returns-then-shares-category-gt-WHOLE_SHARE
-unfolding over_of
-returns-then-shares-category-gt-WHOLE_SHARE c =
-    let shares_at : get_or c.shares-shares.result c.loop-category.category 0 ≡ shares_of c.args.book.now c.loop-category.category = shared_all c.args.book.now c.shares-shares.ensures c.loop-category.category (omega arith) in
-    let loop = c.loop-category in
-    rw c.at.ensures (over_is c.args.book.now loop.category
-    (found categories loop.category _ loop.invariant.2 (omega arith) (ap (ltb whole_share) (sym shares_at) ∙ lt-ltb _ _ c.if-shares-category-gt-WHOLE_SHARE.true)) (omega arith))
-
-pub loop-category-preserved : goal.loop-category-preserved
-loop-category-preserved c =
-    let shares_at : get_or c.shares-shares.result c.loop-category.category 0 ≡ shares_of c.args.book.now c.loop-category.category = shared_all c.args.book.now c.shares-shares.ensures c.loop-category.category (omega arith) in
-    let loop = c.loop-category in (
-      omega arith,
-      omega arith,
-      passed categories loop.category _ loop.invariant.2 (omega arith) (ap (ltb whole_share) (sym shares_at) ∙ le-ltb _ _ c.if-shares-category-gt-WHOLE_SHARE.false),
-    )
-
-pub returns : goal.returns
-unfolding over_of
-returns c = let loop = c.loop-category in
-    fits_is c.args.book.now (categories + 1) (none categories loop.category _ loop.invariant.2 (omega arith)) (omega arith)
+pub returns-in-None : goal.returns-in-None
+returns-in-None c =
+    ap by_position (sym c.in-None.is) ∙ position_is c.args.book.now c.shares-shares.ensures c.position.result
+    (IsFirst-from_position _ _ c.position.result Above Within c.position.ensures.ran (YieldsList-from_slice _ (c.iter.ensures.rest ∙ its_slice c.args.book.now c.shares-shares.ensures))
+    (λ x q k. search (rules, tests)) (λ x q k. search (rules, tests)))

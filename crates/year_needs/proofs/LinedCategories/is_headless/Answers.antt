@@ -1,4 +1,4 @@
--- `year_needs::is_headless` meets its contract: what `any` says of the categories, and the flags of the lines. Assumes nothing.
+-- `year_needs::LinedCategories::is_headless` meets its contract: what `any` says of the categories, and the flags of the lines. Assumes nothing.
 use Prim.Native.Nat.{ℕ, ◌+◌}
 use mathlib.Core.Bool.{Bool, true, false, ◌&&◌}
 use mathlib.Core.Path.{refl, ◌≡◌, ◌∙◌}
@@ -11,12 +11,12 @@ use Rattle.record_table.specs.Table.{categories}
 use Rattle.year_needs.specs.Complete.{uncounted}
 use Rattle.year_needs.proofs.Lined.{headless_flagged}
 use Rattle.year_needs.proofs.Passing.{any_found}
-use Rattle.year_needs.proofs.is_headless.Goals as goal
+use Rattle.year_needs.proofs.LinedCategories.is_headless.Goals as goal
 
 pub returns : goal.returns
 returns c =
-    let flagged : ℕ → Bool = λ category. get_or c.args.lined.now category false && uncounted c.args.book.now c.args.month (Some category) in
+    let flagged : ℕ → Bool = λ category. get_or c.args.self.now.flags category false && uncounted c.args.self.now.book.now c.args.month (Some category) in
     any_found flagged categories c.any.result
     (cases_from_any _ _ _ (λ category. flagged category ≡ true) (λ category. flagged category ≡ false) c.any.ensures.ran
     (YieldsList-from_range 1 (categories + 1) categories refl refl) (λ x q k. search (rules, tests)) (λ x q k. search (rules, tests))) ∙
-    headless_flagged c.args.book.now c.args.month c.requires.lined c.known.ensures
+    headless_flagged c.args.self.now.book.now c.args.month c.args.self.now.lined c.known.ensures

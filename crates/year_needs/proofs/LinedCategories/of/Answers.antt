@@ -1,4 +1,4 @@
--- `year_needs::lined_categories` meets its contract: the flags of the lines before the one that the loop has come to.
+-- `year_needs::LinedCategories::of` meets its contract: the flags of the lines before the one that the loop has come to.
 -- Assumes nothing.
 use Prim.Native.Nat.{◌≤◌}
 use native.Mathlib.Omega.{arith}
@@ -7,7 +7,7 @@ use Rattle.record_table.specs.Table.{categories}
 use Rattle.year_months.specs.Series.{amount_of}
 use Rattle.year_needs.proofs.Lined.{lined_more, lined_none}
 use Rattle.year_needs.proofs.Ranges.{category_amount}
-use Rattle.year_needs.proofs.lined_categories.Goals as goal
+use Rattle.year_needs.proofs.LinedCategories.of.Goals as goal
 
 pub loop-line-init : goal.loop-line-init
 loop-line-init c = (omega arith, lined_none _)
