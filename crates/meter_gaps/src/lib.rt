@@ -55,10 +55,7 @@ impl Month<'_> {
         ensures { is_recorded value ≡ false →
             result ≡ fill_from (series self.now.hours.now) (length self.now.hours.now) (start_of (series self.now.hours.now) hour) }
     {
-        if value.is_some() {
-            return filling;
-        }
-        if !self.is_start(hour) {
+        if value.is_some() || !self.is_start(hour) {
             return filling;
         }
         self.fill_from(hour)
@@ -69,10 +66,7 @@ impl Month<'_> {
     fn is_start(&self, hour: usize) -> bool
         ensures { result ≡ eqb (start_of (series self.now.hours.now) hour) hour }
     {
-        if hour == 0 {
-            return true;
-        }
-        meter_series::at(self.hours, hour - 1).is_some()
+        hour == 0 || meter_series::at(self.hours, hour - 1).is_some()
     }
 
     // What fills the run that starts at an hour; nothing where that hour is recorded.
@@ -84,7 +78,7 @@ impl Month<'_> {
         self.fill_of(start, self.end_from(start))
     }
 
-    // The first recorded hour from `start` on, or the month's end.
+    // The first recorded hour from `start` on, or the month's end. The loop counts the hours, since the number of one is what it looks for.
     #[tactic(auto, using(laws::proofs::Counting::search_stops, laws::proofs::Counting::search_passes, laws::proofs::Counting::search_ends))]
     fn end_from(&self, start: usize) -> usize
         requires { start ≤ length self.now.hours.now }
@@ -104,11 +98,7 @@ impl Month<'_> {
         requires { (start ≤ end) × (end ≤ most_hours) }
         ensures { result ≡ fill_of (series self.now.hours.now) (length self.now.hours.now) start end }
     {
-        let length = end - start;
-        if length < 1 {
-            return None;
-        }
-        if LONGEST < length {
+        if !(1..=LONGEST).contains(&(end - start)) {
             return None;
         }
         self.average(start, end)
@@ -120,10 +110,7 @@ impl Month<'_> {
         requires { (start ≤ most_hours) × (end ≤ most_hours) }
         ensures { result ≡ average_of (series self.now.hours.now) (length self.now.hours.now) start end }
     {
-        if start < NEIGHBOURS {
-            return None;
-        }
-        if self.hours.len() < end + NEIGHBOURS {
+        if start < NEIGHBOURS || self.hours.len() < end + NEIGHBOURS {
             return None;
         }
         let before = self.total(start - NEIGHBOURS)?;

@@ -88,10 +88,7 @@ fn is_between(x: f32, least: u32, most: u32) -> bool
     requires { (least ≤ 2 ^ 24) × (most ≤ 2 ^ 24) }
     ensures { result ≡ is_between least most x }
 {
-    if x >= least as f32 {
-        return x <= most as f32;
-    }
-    false
+    x >= least as f32 && x <= most as f32
 }
 
 // An f64's exponent stands above its digits.
