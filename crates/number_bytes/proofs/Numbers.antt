@@ -24,13 +24,13 @@ module _ (s : List ℕ) (bytes : (k : ℕ) → get_or s k 0 < 256) where
   number_bound at zero = rw pow-zero (omega arith)
   number_bound at (suc n) = rw pow-suc (omega (arith, bytes at, number_bound (at + 1) n))
 
-  number_fits : (at n : ℕ) → n ≤ 8 → number_at s at n < 2 ^ 64
-  number_fits at n l = lt_of_lt_of_le (number_bound at n) (pow-le-pow_right {n = 256} (omega arith) {i = n} {j = 8} l)
+  -- a number of fewer than eight bytes has room for one more
+  pub more_fits : (at n : ℕ) → n < 8 → number_at s at n * 256 + 256 ≤ 2 ^ 64
+  more_fits at n l =
+      let few : number_at s at n < 256 ^ 7 = lt_of_lt_of_le (number_bound at n) (pow-le-pow_right {n = 256} (omega arith) {i = n} {j = 7} (omega arith)) in
+      omega arith
 
-  -- a turn of the loop that reads them puts one byte more in front, and stays a number of at most eight
+  -- a turn of the loop that reads them puts one byte more in front
   module _ (at wide i value : ℕ) (more : 0 < i) (some : i ≤ wide) (is : value ≡ number_at s (at + i) (wide - i)) where
     pub turn : value * 256 + get_or s (at + (i - 1)) 0 ≡ number_at s (at + (i - 1)) (wide - (i - 1))
     turn = ap (λ (x : ℕ). x * 256 + get_or s (at + (i - 1)) 0) is ∙ sym (number_step s at wide i more some)
-
-    pub turn_fits : wide ≤ 8 → value * 256 + get_or s (at + (i - 1)) 0 < 2 ^ 64
-    turn_fits eight = rw turn (number_fits (at + (i - 1)) (wide - (i - 1)) (omega (arith, eight)))

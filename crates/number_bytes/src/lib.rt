@@ -5,6 +5,7 @@ ghost use Rattle.std.specs.Prelude.{◌≡◌, ◌+◌, ◌^◌, ◌≤◌, ◌<
 ghost use Rattle.number_bytes.specs.Number.{number_at, signed_of};
 
 // Sixteen bits as a signed number.
+#[tactic(auto, using(crate::proofs::Sixteen::signed_is))]
 pub fn signed(bits: u64) -> i16
     requires { bits < 2 ^ 16 }
     ensures { result ≡ signed_of bits }
@@ -13,6 +14,7 @@ pub fn signed(bits: u64) -> i16
 }
 
 // The little-endian number of some bytes.
+#[tactic(auto, using(crate::proofs::Numbers::number_bound, crate::proofs::Numbers::turn, crate::proofs::Numbers::more_fits), unfolding(crate::specs::Number::number_at))]
 pub fn number(bytes: &[u8], at: usize, wide: usize) -> u64
     requires { (at + wide ≤ length bytes.now) × (wide ≤ 8) }
     ensures value { result ≡ number_at bytes.now at wide }
