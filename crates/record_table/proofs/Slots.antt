@@ -10,7 +10,7 @@ use borrow.Author.Tests.{ltb-true, ltb-false}
 use lib.Dec.{ltb}
 use lib.ListN.{length, get_or, take, drop, length-drop}
 use Rattle.std.proofs.lemmas.Grind.{get_or_after_one}
-use Rattle.std.proofs.lemmas.List.{drop_more}
+use Rattle.std.proofs.lemmas.List.{drop_more, drop_all}
 use Rattle.record_table.specs.Table.{Row, no_row, table, highest_of}
 use Rattle.record_table.specs.Slot.{count, index, total, slots, slot_of}
 
@@ -139,18 +139,19 @@ module _ (highest bytes : List ℕ) (before i : ℕ) (h : i < length highest) (b
       let power : 256 ^ (i + 1) ≡ 256 ^ i * 256 = ap (λ (k : ℕ). 256 ^ k) one ∙ pow-suc 256 i in
       omega (arith, few before (get_or highest i 0) (get_or bytes i 0) (256 ^ i) l (small_high rest l) (each i 0 b), power)
 
-pub below : (n i : ℕ) → i ≤ 4 → n < 256 ^ i → n < 2 ^ 32
-below n i l h = omega (arith, h, pow-le-pow_right {n = 256} (omega arith) {i = i} {j = 4} l)
+  pub product_small : ((k d : ℕ) → k < length (drop 1 highest) → get_or (drop 1 highest) k d < 256) → before < 256 ^ i → i < 4 → before * get_or highest i 0 < 2 ^ 32
+  product_small rest l four = go (small_high rest l)
+    where
+      go : (before ≡ 0) ⊎ (get_or highest i 0 < 256) → before * get_or highest i 0 < 2 ^ 32
+      go (inl none) = rw none (omega arith)
+      go (inr h) = omega (arith, mul-le-mul_left {m = get_or highest i 0} {n = 255} before (omega arith), pow-le-pow_right {n = 256} (omega arith) {i = i} {j = 3} (omega arith), l)
+
+pub power_small : (i : ℕ) → i ≤ 4 → 256 ^ i ≤ 2 ^ 32
+power_small i l = pow-le-pow_right {n = 256} (omega arith) {i = i} {j = 4} l
 
 -- and where no byte is left, all are counted
-nothing : (xs : List ℕ) (i : ℕ) → length xs ≤ i → drop i xs ≡ []
-nothing [] zero l = refl
-nothing [] (suc i) l = refl
-nothing (x ∷ xs) zero l = let z : ⊥ = omega (arith, l) in absurd z
-nothing (x ∷ xs) (suc i) l = nothing xs i (omega (arith, l))
-
 pub all_counted :
     (highest bytes : List ℕ) (before i : ℕ) → length highest ≡ length bytes → length highest ≤ i →
     counted_on before (drop i highest) (drop i bytes) ≡ counted_on 0 highest bytes → before ≡ index highest bytes
 all_counted highest bytes before i same end e =
-    sym (ap (λ (xs : List ℕ). counted_on before xs (drop i bytes)) (nothing highest i end)) ∙ e ∙ counted 0 highest bytes same ∙ omega arith
+    sym (ap (λ (xs : List ℕ). counted_on before xs (drop i bytes)) (drop_all i highest end)) ∙ e ∙ counted 0 highest bytes same ∙ omega arith

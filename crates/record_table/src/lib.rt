@@ -72,6 +72,7 @@ pub const MT: Key<2> = Key {
 };
 
 // The slot of a key's bytes. A byte counts from 1; of 0, none comes before it either.
+#[tactic(auto, using(crate::proofs::Slots::turn, crate::proofs::Slots::fewer, crate::proofs::Slots::all_counted, crate::proofs::Slots::product_small, crate::proofs::Slots::power_small))]
 pub fn slot<const N: usize>(key: Key<N>, bytes: [usize; N]) -> usize
     requires { (key.first < 2 ^ 32) × (length bytes ≤ 4) × All (λ byte. byte < 256) bytes × All (λ high. high < 256) (drop 1 key.most) }
     ensures { result ≡ key.entry.first + index key.entry.most bytes.entry }
@@ -83,7 +84,8 @@ pub fn slot<const N: usize>(key: Key<N>, bytes: [usize; N]) -> usize
     key.first + before
 }
 
-// The slot of each mark's key.
+// The slot of each mark's key. A method of `Key` would be one for all of them, and promise what `slot` does: it could not say whose row of the paper's table
+// the slot is of.
 pub fn year_slot() -> usize
     ensures { result ≡ slot_of yr [] }
 {
