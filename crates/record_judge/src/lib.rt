@@ -1,29 +1,32 @@
 // A record alone: its mark, its zero bytes and its fields; and what it does, where nothing is wrong with them.
 #![tactic(auto, unfolding(record_table::specs::Slot::count, record_table::specs::Slot::total, record_table::specs::Slot::slot_of, record_fields::specs::Entry::in_range, record_fields::specs::Entry::outside_at, crate::specs::Record::nonzero_in, crate::specs::Record::outside_in, crate::specs::Record::key_in, crate::specs::Record::key_of, crate::specs::Record::verdict, crate::specs::Record::judged_as, crate::specs::Keyed::key_outside, crate::specs::Keyed::keyed, crate::specs::Keyed::livestock_outside, crate::specs::Defaults::is_defaults))]
 
+mod mark;
 pub mod rows;
 
 ghost use Rattle.std.specs.Prelude.{◌≡◌, cond, ◌&&◌, ◌+◌, ◌^◌, ◌≤◌, ◌<◌, eqb, leb, pos, neg_ℤ, All, length, drop};
 ghost use Rattle.std.specs.Int.Signed.{le_z};
-ghost use Rattle.record_table.specs.Table.{unless, yr, ln, hd, tp, dr, pe, mt, entries_of, record_bytes};
+ghost use Rattle.number_bytes.specs.Number.{number_at};
+ghost use Rattle.record_table.specs.Table.{unless, yr, ln, hd, tp, dr, pe, mt, entries_of, record_bytes, after_mark};
 ghost use Rattle.record_fields.specs.Entry.{outside_at};
 ghost use Rattle.record_defaults.specs.Tables.{lowest_state, highest_state};
 ghost use Rattle.record_defaults.specs.StandsFor.{state_at};
 ghost use Rattle.record_judge.specs.Defaults.{is_defaults, defaults_entries};
+ghost use Rattle.record_judge.specs.Marks.{mark_of};
 ghost use Rattle.record_judge.specs.Record.{outside_in, verdict, judged_by, judged_as, judged};
 ghost use Rattle.record_judge.specs.Keyed.{keyed, livestock_outside};
 
+use mark::MARK;
+pub use mark::Mark;
 use record_defaults::Livestock;
 use record_fields::Field;
 use record_table::{Key, RECORD};
 use refusals::{Reason, Refusal};
 
-// The width of a mark, and the offset of the key after it.
-const MARK: usize = 2;
-
+// The offset of the key, after the mark.
 const KEY_AT: usize = MARK;
 
-// The system that is anaerobic.
+// The system that is anaerobic: what the byte says, which is asked once, below; an enum of the two systems would be made of the byte to be asked the same.
 const ANAEROBIC: u8 = 0;
 
 // What a record that is not refused does to the book: put sixteen bytes into a slot, which are its own unless it is a defaults line; or empty a slot, which
@@ -35,33 +38,49 @@ pub enum Change {
 }
 
 // What a record does, by itself: refusals 1 to 4, or what its mark says.
+#[tactic(auto, unfolding(number_bytes::specs::Number::number_at, crate::specs::Record::row_in, crate::specs::Record::row_of, crate::specs::Record::key_row, crate::specs::Record::entries_for, crate::specs::Record::judged, crate::specs::Marks::mark_of, crate::specs::Defaults::is_defaults))]
 pub fn judge(posted: &[u8]) -> Result<Change, Refusal>
     ensures { result ≡ judged posted.now }
 {
     let Some(record) = posted.as_array() else {
         return Err(Reason::NotSixteenBytes.at(0));
     };
-    match number_bytes::number(record, 0, MARK) {
-        rows::YR => judge_yr(record),
-        rows::LN => judge_ln(record),
-        rows::HD => judge_hd(record),
-        rows::TP => judge_tp(record),
-        rows::DR => judge_dr(record),
-        rows::PE => judge_pe(record),
-        rows::MT => judge_mt(record),
-        rows::LD => judge_ld(record),
-        _ => Err(Reason::UnknownMark.at(0)),
-    }
+    let Some(mark) = Mark::of([record[0], record[1]]) else {
+        return Err(Reason::UnknownMark.at(0));
+    };
+    mark.judge(record)
 }
 
 // Whether a record is a defaults line, which puts the LN that it stands for into its slot (`record_defaults::line`); any other puts itself there.
+#[tactic(auto, unfolding(number_bytes::specs::Number::number_at, crate::specs::Record::row_in, crate::specs::Marks::mark_of, crate::specs::Defaults::is_defaults))]
 pub fn is_defaults(posted: &[u8; RECORD]) -> bool
     ensures { result ≡ is_defaults posted.now }
 {
-    number_bytes::number(posted, 0, MARK) == rows::LD
+    Mark::of([posted[0], posted[1]]) == Some(Mark::Ld)
 }
 
-// A function for each mark. The first entry's place goes before a later one's, and the key's before them all.
+impl Mark {
+    // A record of the mark.
+    #[tactic(auto, unfolding(crate::specs::Record::row_in, crate::specs::Record::row_of, crate::specs::Record::key_row, crate::specs::Record::entries_for, crate::specs::Record::judged, crate::specs::Record::judged_as, crate::specs::Marks::mark_of, crate::specs::Defaults::is_defaults))]
+    fn judge(self, posted: &[u8; RECORD]) -> Result<Change, Refusal>
+        requires { mark_of (number_at posted.now 0 after_mark) ≡ Some self }
+        ensures { result ≡ judged posted.now }
+    {
+        match self {
+            Mark::Yr => judge_yr(posted),
+            Mark::Ln => judge_ln(posted),
+            Mark::Hd => judge_hd(posted),
+            Mark::Tp => judge_tp(posted),
+            Mark::Dr => judge_dr(posted),
+            Mark::Pe => judge_pe(posted),
+            Mark::Mt => judge_mt(posted),
+            Mark::Ld => judge_ld(posted),
+        }
+    }
+}
+
+// A function for each mark. The first entry's place goes before a later one's, and the key's before them all. Where two rows have one shape, as HD and MT, the
+// functions differ in constants alone, each of which one for both would take: what is the same in them stands in `nonzero`, `outside` and `keyed`.
 fn judge_yr(posted: &[u8; RECORD]) -> Result<Change, Refusal>
     ensures { result ≡ judged_as yr posted.now }
 {
@@ -159,6 +178,7 @@ fn defaults_outside(posted: &[u8; RECORD]) -> Option<usize>
 }
 
 // A livestock that Table A.2 lacks is outside whatever the state; one that it has tells which states there are.
+#[tactic(auto, using(crate::proofs::Entries::byte_in), unfolding(record_defaults::specs::Tables::livestock_of, record_fields::specs::Entry::outside_at, crate::specs::Keyed::livestock_outside))]
 fn livestock_outside(posted: &[u8; RECORD], later: Option<usize>) -> Option<usize>
     ensures { result ≡ livestock_outside posted.now later }
 {
@@ -179,6 +199,7 @@ fn state_field(livestock: Livestock) -> Field
 
 // A record by its key, each byte of which counts from 1: by the place of a zero byte that is not 0, and that of a field after the key that is outside its
 // range.
+#[tactic(auto, using(crate::proofs::KeyBytes::key_small, crate::proofs::KeyBytes::outside_turn, crate::proofs::KeyBytes::key_turn), unfolding(crate::specs::Record::key_in, crate::specs::Keyed::key_outside, crate::specs::Keyed::keyed))]
 fn keyed<const N: usize>(
     posted: &[u8; RECORD],
     key: Key<N>,

@@ -1,24 +1,6 @@
 // The table of the records in code: each mark, and what stands after it, in order.
 use record_fields::{Field, Zeros};
 
-// The marks, each as the number that its two letters make. No enum of them: it would be made from the letters, by a match like that of `judge`, to be matched
-// on there once.
-pub const YR: u64 = b'Y' as u64 + 256 * (b'R' as u64);
-
-pub const LN: u64 = b'L' as u64 + 256 * (b'N' as u64);
-
-pub const HD: u64 = b'H' as u64 + 256 * (b'D' as u64);
-
-pub const TP: u64 = b'T' as u64 + 256 * (b'P' as u64);
-
-pub const DR: u64 = b'D' as u64 + 256 * (b'R' as u64);
-
-pub const PE: u64 = b'P' as u64 + 256 * (b'E' as u64);
-
-pub const MT: u64 = b'M' as u64 + 256 * (b'T' as u64);
-
-pub const LD: u64 = b'L' as u64 + 256 * (b'D' as u64);
-
 // The entries of each mark after its key, in the order of the paper's table. YR
 pub const YR_FIRST_YEAR: Field = Field {
     at: 2,
