@@ -9,7 +9,6 @@ ghost use Rattle.book_slots.specs.Field.{seen_at};
 ghost use Rattle.book_herd.specs.Herd.{system_of, category_of, line_of, head_of, drained_of};
 
 use book::Book;
-use record_fields::Field;
 use record_judge::rows;
 
 #[derive(Clone, Copy)]
@@ -23,18 +22,21 @@ pub struct Line {
     pub conversion: u64,
 }
 
+// A function for each field that is read alone: its name is the field's, its contract says where 01's table has it, and the body is the one `book_slots::read`.
 pub fn system(book: &Book<'_>, line: usize) -> Option<u64>
     requires { line ≤ lines }
     ensures { result ≡ system_of book.now line }
 {
-    line_field(book, line, rows::LN_SYSTEM)
+    let slot = record_table::line_slot(line);
+    book_slots::read(book, slot, rows::LN_SYSTEM)
 }
 
 pub fn category(book: &Book<'_>, line: usize) -> Option<u64>
     requires { line ≤ lines }
     ensures { result ≡ category_of book.now line }
 {
-    line_field(book, line, rows::LN_CATEGORY)
+    let slot = record_table::line_slot(line);
+    book_slots::read(book, slot, rows::LN_CATEGORY)
 }
 
 // All numbers of a line at once, 0 where no LN stands.
@@ -42,14 +44,15 @@ pub fn line_at(book: &Book<'_>, line: usize) -> Line
     requires { line ≤ lines }
     ensures { result ≡ line_of book.now line }
 {
+    let slot = record_table::line_slot(line);
     Line {
-        system: line_number(book, line, rows::LN_SYSTEM),
-        category: line_number(book, line, rows::LN_CATEGORY),
-        solids: line_number(book, line, rows::LN_TABLE_SOLIDS),
-        mass: line_number(book, line, rows::LN_MASS),
-        share: line_number(book, line, rows::LN_SHARE),
-        b0: line_number(book, line, rows::LN_B0),
-        conversion: line_number(book, line, rows::LN_CONVERSION_FACTOR),
+        system: book_slots::field(book, slot, rows::LN_SYSTEM),
+        category: book_slots::field(book, slot, rows::LN_CATEGORY),
+        solids: book_slots::field(book, slot, rows::LN_TABLE_SOLIDS),
+        mass: book_slots::field(book, slot, rows::LN_MASS),
+        share: book_slots::field(book, slot, rows::LN_SHARE),
+        b0: book_slots::field(book, slot, rows::LN_B0),
+        conversion: book_slots::field(book, slot, rows::LN_CONVERSION_FACTOR),
     }
 }
 
@@ -69,18 +72,4 @@ pub fn drained(book: &Book<'_>, line: usize, month: usize) -> bool
     ensures { result ≡ drained_of book.now line month }
 {
     book_slots::filled(book, record_table::drain_slot(line, month))
-}
-
-fn line_field(book: &Book<'_>, line: usize, entry: Field) -> Option<u64>
-    requires { (line ≤ lines) × (entry.at + entry.wide ≤ record_bytes) × (entry.wide ≤ 8) }
-    ensures { result ≡ seen_at book.now (slot_of ln (line ∷ [])) entry.at entry.wide }
-{
-    book_slots::read(book, record_table::line_slot(line), entry)
-}
-
-fn line_number(book: &Book<'_>, line: usize, entry: Field) -> u64
-    requires { (line ≤ lines) × (entry.at + entry.wide ≤ record_bytes) × (entry.wide ≤ 8) }
-    ensures { result ≡ number_at book.now (slot_of ln (line ∷ []) * record_bytes + entry.at) entry.wide }
-{
-    book_slots::field(book, record_table::line_slot(line), entry)
 }

@@ -13,16 +13,17 @@ use book::Book;
 use record_fields::Field;
 use record_judge::rows;
 
+// A function for each field: its name is the field's, its contract says where 01's table has it, and the body is the one `read`.
 pub fn first_year(book: &Book<'_>) -> Option<u64>
     ensures { result ≡ first_year_of book.now }
 {
-    year_field(book, rows::YR_FIRST_YEAR)
+    read(book, record_table::year_slot(), rows::YR_FIRST_YEAR)
 }
 
 pub fn first_month(book: &Book<'_>) -> Option<u64>
     ensures { result ≡ first_month_of book.now }
 {
-    year_field(book, rows::YR_FIRST_MONTH)
+    read(book, record_table::year_slot(), rows::YR_FIRST_MONTH)
 }
 
 // In tenths of a degree.
@@ -38,21 +39,33 @@ pub fn project_methane(book: &Book<'_>, month: usize) -> Option<u64>
     requires { month ≤ months }
     ensures { result ≡ project_methane_of book.now month }
 {
-    project_field(book, month, rows::PE_PROJECT_METHANE)
+    read(
+        book,
+        record_table::project_slot(month),
+        rows::PE_PROJECT_METHANE,
+    )
 }
 
 pub fn baseline_co2(book: &Book<'_>, month: usize) -> Option<u64>
     requires { month ≤ months }
     ensures { result ≡ baseline_co2_of book.now month }
 {
-    project_field(book, month, rows::PE_BASELINE_CO2)
+    read(
+        book,
+        record_table::project_slot(month),
+        rows::PE_BASELINE_CO2,
+    )
 }
 
 pub fn project_co2(book: &Book<'_>, month: usize) -> Option<u64>
     requires { month ≤ months }
     ensures { result ≡ project_co2_of book.now month }
 {
-    project_field(book, month, rows::PE_PROJECT_CO2)
+    read(
+        book,
+        record_table::project_slot(month),
+        rows::PE_PROJECT_CO2,
+    )
 }
 
 pub fn destroyed(book: &Book<'_>, month: usize, device: usize) -> Option<u64>
@@ -66,24 +79,10 @@ pub fn destroyed(book: &Book<'_>, month: usize, device: usize) -> Option<u64>
     )
 }
 
-// One field of the slot of a mark and its key.
-fn year_field(book: &Book<'_>, entry: Field) -> Option<u64>
-    requires { (entry.at + entry.wide ≤ record_bytes) × (entry.wide ≤ 8) }
-    ensures { result ≡ seen_at book.now (slot_of yr []) entry.at entry.wide }
-{
-    read(book, record_table::year_slot(), entry)
-}
-
-fn project_field(book: &Book<'_>, month: usize, entry: Field) -> Option<u64>
-    requires { (month ≤ months) × (entry.at + entry.wide ≤ record_bytes) × (entry.wide ≤ 8) }
-    ensures { result ≡ seen_at book.now (slot_of pe (month ∷ [])) entry.at entry.wide }
-{
-    read(book, record_table::project_slot(month), entry)
-}
-
+// One field of a slot.
 #[tactic(auto, unfolding(crate::specs::Field::seen_at))]
 pub fn read(book: &Book<'_>, slot: usize, entry: Field) -> Option<u64>
-    requires { (slot < slots) × (entry.at + entry.wide ≤ record_bytes) × (entry.wide ≤ 8) }
+    requires { (slot < slots) × (entry.at + entry.wide ≤ record_bytes) }
     ensures { result ≡ seen_at book.now slot entry.at entry.wide }
 {
     filled(book, slot).then_some(field(book, slot, entry))
@@ -100,7 +99,7 @@ pub fn filled(book: &Book<'_>, slot: usize) -> bool
 
 // The number in a slot, filled or not: 0 where it is empty.
 pub fn field(book: &Book<'_>, slot: usize, entry: Field) -> u64
-    requires { (slot < slots) × (entry.at + entry.wide ≤ record_bytes) × (entry.wide ≤ 8) }
+    requires { (slot < slots) × (entry.at + entry.wide ≤ record_bytes) }
     ensures { result ≡ number_at book.now (slot * record_bytes + entry.at) entry.wide }
 {
     let bytes = book.bytes;
