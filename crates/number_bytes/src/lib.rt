@@ -14,15 +14,15 @@ pub fn signed(bits: u64) -> i16
 }
 
 // The little-endian number of some bytes.
-#[tactic(auto, using(crate::proofs::Numbers::number_bound, crate::proofs::Numbers::turn, crate::proofs::Numbers::more_fits), unfolding(crate::specs::Number::number_at))]
+#[tactic(auto, using(crate::proofs::Numbers::number_bound, crate::proofs::Numbers::more_fits), unfolding(crate::specs::Number::number_at))]
 pub fn number(bytes: &[u8], at: usize, wide: usize) -> u64
     requires { (at + wide ≤ length bytes.now) × (wide ≤ 8) }
     ensures value { result ≡ number_at bytes.now at wide }
     ensures upper_bound { result < 256 ^ wide }
 {
     let mut value = 0;
-    for i in (0..wide).rev() {
-        value = value * 256 + u64::from(bytes[at + i]);
+    for byte in bytes[at..at + wide].iter().rev() {
+        value = value * 256 + u64::from(*byte);
     }
     value
 }

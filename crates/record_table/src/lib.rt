@@ -78,8 +78,8 @@ pub fn slot<const N: usize>(key: Key<N>, bytes: [usize; N]) -> usize
     ensures { result ≡ key.entry.first + index key.entry.most bytes.entry }
 {
     let mut before = 0;
-    for i in 0..N {
-        before = before * key.most[i] + bytes[i].saturating_sub(1);
+    for (high, byte) in key.most.iter().zip(&bytes) {
+        before = before * *high + byte.saturating_sub(1);
     }
     key.first + before
 }

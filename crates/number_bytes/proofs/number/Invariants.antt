@@ -1,8 +1,6 @@
--- `number_bytes::number`: value is the number of the bytes from at + i on. Assumes nothing.
-use mathlib.Core.Path.{◌≡◌}
-use Prim.Native.Nat.{◌+◌, ◌-◌}
-use Rattle.number_bytes.specs.Number.{number_at}
+-- `number_bytes::number`: value is the number of the bytes after those that are left. Assumes nothing.
+use Rattle.number_bytes.proofs.Numbers.{SoFar}
 use Rattle.number_bytes.proofs.number.Given as goal
 
-abbrev pub invariant-loop-i : goal.invariant-loop-i
-invariant-loop-i l = l.value ≡ number_at l.bytes (l.at + l.i) (l.wide - l.i)
+abbrev pub invariant-loop-byte : goal.invariant-loop-byte
+invariant-loop-byte l = SoFar l.bytes l.at l.wide l.value l.byte-iterator.iter.rest.now
