@@ -1,4 +1,5 @@
-// The book of records: lent memory, sixteen bytes a slot.
+// The book of records: lent memory, sixteen bytes a slot. One that is written stays lent bytes, as C lends it, and each clause asks what they have to be; `Book`
+// is one that is read.
 #![tactic(auto)]
 
 ghost use Rattle.std.specs.Prelude.{◌≡◌, ◌<◌, Ok, length};

@@ -1,4 +1,5 @@
-// The lines and the heads that a book holds: each field of LN and of HD, and the drain marks of a line.
+// The lines and the heads that a book holds: each field of LN and of HD, and the drain marks of a line. Lines, categories and months are numbers, as in
+// `book_slots`.
 #![tactic(auto, using(book_slots::proofs::Inside::inside))]
 
 ghost use Rattle.std.specs.Prelude.{◌≡◌, [], ◌∷◌, ◌+◌, ◌*◌, ◌≤◌};

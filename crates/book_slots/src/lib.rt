@@ -1,4 +1,7 @@
 // One field of one slot of a book, and what stands in the slots of YR, TP, PE and MT. None is a slot that was never filled, and 0 is a value.
+//
+// A month and a device are numbers: a caller counts them, and what a clause asks of one follows from its loop. A type of them would be made and opened again
+// in each call.
 #![tactic(auto, using(crate::proofs::Inside::inside))]
 
 ghost use Rattle.std.specs.Prelude.{◌≡◌, not, [], ◌∷◌, ◌+◌, ◌*◌, ◌≤◌, ◌<◌};

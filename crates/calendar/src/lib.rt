@@ -17,7 +17,7 @@ const SEPTEMBER: u64 = 9;
 const NOVEMBER: u64 = 11;
 
 // The days of a month of the book; month 1 is the first month of the first year. It asks the upper ends
-// of 01's ranges alone.
+// of 01's ranges alone, which the fields of a book have: they are numbers there, and stay numbers here.
 #[tactic(auto, unfolding(crate::specs::Days::days_of))]
 pub fn days(first_year: u64, first_month: u64, month: u64) -> u64
     requires { (first_year ≤ 2089) × (first_month ≤ 12) × (month ≤ 120) }

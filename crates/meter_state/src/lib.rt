@@ -37,7 +37,7 @@ pub fn has(state: u8, part: u8) -> bool
     state / part % 2 == 1
 }
 
-// The reading of an hour, from 0.
+// The reading of an hour, from 0. Each list is lent by itself, as C lends it, and the clause asks that the hour stands in each.
 #[tactic(auto, using(crate::proofs::States::before_end), unfolding(crate::specs::State::reading_at, crate::specs::State::reading_of))]
 pub fn reading_at(flows: &[f32], contents: &[f32], states: &[u8], hour: usize) -> Reading
     requires { (hour < length flows.now) × (hour < length contents.now) × (hour < length states.now) }

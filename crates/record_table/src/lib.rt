@@ -85,7 +85,7 @@ pub fn slot<const N: usize>(key: Key<N>, bytes: [usize; N]) -> usize
 }
 
 // The slot of each mark's key. A method of `Key` would be one for all of them, and promise what `slot` does: it could not say whose row of the paper's table
-// the slot is of.
+// the slot is of. Lines, months and the others are numbers here, any that a byte of a key can be.
 pub fn year_slot() -> usize
     ensures { result ≡ slot_of yr [] }
 {

@@ -2,7 +2,7 @@
 // rule and the potential.
 //
 // The fields are private: outside this crate only `of_grams` makes a unit of a bare number, which names the unit at that place, and
-// no sum, difference or share mixes two units.
+// no sum, difference or share mixes two units. What `plus` asks is a fact of two masses, and so of no type.
 //
 // Three structs of one field, since the paper names that form for them. No trait over the three: it would say each contract once more, and each unit would
 // still have its own `of_grams` and `grams`.
