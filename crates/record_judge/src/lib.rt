@@ -211,6 +211,7 @@ fn keyed<const N: usize>(
 {
     let mut bytes = [0; N];
     let mut wrong = outside;
+    // The number is where the byte stands in the record too.
     for i in (0..N).rev() {
         let field = key_field(KEY_AT + i, key.most[i]);
         wrong = record_fields::outside(posted, field).or(wrong);
