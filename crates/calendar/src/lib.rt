@@ -40,6 +40,7 @@ fn gone_by(first_month: u64, month: u64) -> u64
     (first_month + month).saturating_sub(2)
 }
 
+#[tactic(auto, unfolding(crate::specs::Days::length_of, crate::specs::Days::lengths_of))]
 fn length(year: u64, month: u64) -> u64
     requires { (1 ≤ month) × (month ≤ months_in_year) }
     ensures { result ≡ length_of year month }

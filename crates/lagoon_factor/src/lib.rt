@@ -17,6 +17,7 @@ const HOT_END: i16 = 302;
 pub const MILLION: u64 = 1_000_000;
 
 // The factor at a temperature in tenths of a degree.
+#[tactic(auto, unfolding(crate::specs::Factor::factor_of))]
 pub fn factor(tenths: i16) -> u64
     ensures { result ≡ factor_of tenths }
 {
@@ -32,6 +33,7 @@ pub fn factor(tenths: i16) -> u64
 const FIRST_ENTRY: usize = COLD_END as usize;
 
 // The only function that names the table: a constant array is built in the frame of each function that names it.
+#[tactic(auto, using(crate::proofs::Entries::entry_right), unfolding(crate::proofs::Table::entry_of, crate::proofs::Table::factors))]
 fn entry(tenths: usize) -> u64
     requires { (cold_end ≤ tenths) × (tenths < hot_end) }
     ensures { result ≡ ruled_of tenths }

@@ -1,12 +1,11 @@
 -- What a month's herd enters, and what degrades, stays small: each product is at most that of the ranges' ends.
 -- Assumes nothing.
-use Prim.Native.Nat.{ℕ, ◌*◌, ◌/◌, ◌^◌, ◌≤◌, ◌<◌}
+use Prim.Native.Nat.{ℕ, ◌*◌, ◌/◌, ◌≤◌}
 use mathlib.Core.Path.{◌≡◌}
-use native.Mathlib.Nat.{mul-le-mul, le_of_lt}
+use native.Mathlib.Nat.{mul-le-mul}
 use native.Mathlib.Omega.{arith}
-use Rattle.lagoon_factor.specs.Rule.{million}
 use Rattle.lagoon_month.specs.Month.{entered_of}
-use Rattle.lagoon_month.specs.Asks.{heads_most, entered_most, grams_most}
+use Rattle.lagoon_month.specs.Asks.{heads_most, entered_most}
 
 -- one factor after the other; a line of another system has these products too
 module _ {heads table_solids mass share : ℕ} (ends : (heads ≤ heads_most) × (table_solids ≤ 2000) × (mass ≤ 20000) × (share ≤ 10000)) where
@@ -30,6 +29,3 @@ module _ {heads table_solids mass share : ℕ} (ends : (heads ≤ heads_most) ×
 -- the paper multiplies by the calibration, the code divides by less: the rest of the one division is the other's, eight times
 pub calibrated : (product : ℕ) → product / 150000000 ≡ product * 8 / (12 * 100000000)
 calibrated product = omega arith
-
-pub product_fits : {available factor : ℕ} → available < grams_most → factor ≤ million → available * factor < 2 ^ 64
-product_fits available factor = omega (arith, mul-le-mul (le_of_lt available) factor)

@@ -21,6 +21,7 @@ const CALIBRATED_PARTS: u64 = ENTERED_PARTS / CALIBRATION;
 
 // What a herd enters in a month, by the sum of the year's twelve heads. It asks the upper ends of 01's
 // ranges, and a month's days.
+#[tactic(auto, using(crate::proofs::Entry::four, crate::proofs::Entry::five, crate::proofs::Entry::calibrated), unfolding(crate::specs::Month::entered_of))]
 pub fn entered(heads: u64, table_solids: u64, mass: u64, share: u64, days: u64) -> Solids
     requires in_ranges { (heads ≤ heads_most) × (table_solids ≤ 2000) × (mass ≤ 20000) × (share ≤ 10000) }
     requires month_days { days ≤ 31 }

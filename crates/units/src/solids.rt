@@ -48,6 +48,7 @@ impl Solids {
     // The B0 rule: degraded solids as carbon dioxide equivalent, b0 in hundredths. Its one division rounds down, so that
     // the methane between the two units is never rounded by itself. It asks b0 within 01's range and a
     // potential of at most 40, more than any edition's; the product then fits.
+    #[tactic(auto, unfolding(crate::specs::Grams::b0_rule_of))]
     pub fn b0_rule(self, b0: u64, potential: u64) -> Co2e
         requires { (b0 ≤ 100) × (potential ≤ 40) × (self.0 < 2 ^ 44) }
         ensures { result ≡ b0_rule_of self b0 potential }
