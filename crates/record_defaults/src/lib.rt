@@ -88,7 +88,7 @@ impl Livestock {
     pub fn new(row: u8) -> Option<Self>
         ensures { result ≡ livestock_of row }
     {
-        if 1 <= row && row <= LIVESTOCK_COUNT as u8 {
+        if (1..=LIVESTOCK_COUNT as u8).contains(&row) {
             return Some(Livestock { row });
         }
         None
@@ -98,24 +98,21 @@ impl Livestock {
     pub fn mass(self) -> u16
         ensures { result ≡ mass_of self }
     {
-        tables::MASSES[self.row as usize - 1]
+        tables::MASSES[usize::from(self.row) - 1]
     }
 
     // Its B0, in hundredths of a cubic metre of methane for a kilogram of solids.
     pub fn b0(self) -> u8
         ensures { result ≡ b0_of self }
     {
-        tables::B0S[self.row as usize - 1]
+        tables::B0S[usize::from(self.row) - 1]
     }
 
     // Whether its solids go by state.
     pub fn asks_state(self) -> bool
         ensures { result ≡ asks_state self }
     {
-        match self.solids_entry() {
-            SolidsEntry::Own(_) => false,
-            SolidsEntry::Column(_) => true,
-        }
+        matches!(self.solids_entry(), SolidsEntry::Column(_))
     }
 
     // Its table solids, in hundredths of a kilogram a day for 1,000 kg of animal.
@@ -133,7 +130,7 @@ impl Livestock {
     fn solids_entry(self) -> SolidsEntry
         ensures { result ≡ solids_entry self }
     {
-        tables::SOLIDS[self.row as usize - 1]
+        tables::SOLIDS[usize::from(self.row) - 1]
     }
 }
 
@@ -141,5 +138,5 @@ fn by_state(state: u8, column: usize) -> u16
     requires { (1 ≤ state) × (state ≤ state_count) × (column < columns) }
     ensures { result ≡ by_state state column }
 {
-    tables::STATES[state as usize - 1][column]
+    tables::STATES[usize::from(state) - 1][column]
 }
