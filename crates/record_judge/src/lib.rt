@@ -79,8 +79,9 @@ impl Mark {
     }
 }
 
-// A function for each mark. The first entry's place goes before a later one's, and the key's before them all. Where two rows have one shape, as HD and MT, the
-// functions differ in constants alone, each of which one for both would take: what is the same in them stands in `nonzero`, `outside` and `keyed`.
+// A function for each mark, which is its row of the paper's table. The first entry's place goes before a later one's, and the key's before them all. HD and MT
+// share a shape, and so do LN, TP and LD (two runs of zeros, then fields): the functions of one shape differ in constants and in which fields they ask, each of
+// which one for them all would take, and what they share stands in `nonzero`, `outside` and `keyed`.
 fn judge_yr(posted: &[u8; RECORD]) -> Result<Change, Refusal>
     ensures { result ≡ judged_as yr posted.now }
 {
@@ -215,7 +216,7 @@ fn keyed<const N: usize>(
     for i in (0..N).rev() {
         let field = key_field(KEY_AT + i, key.most[i]);
         wrong = record_fields::outside(posted, field).or(wrong);
-        bytes[i] = key_byte(posted[KEY_AT + i]);
+        bytes[i] = usize::from(posted[KEY_AT + i]);
     }
     verdict_on(nonzero, wrong, record_table::slot(key, bytes))
 }
@@ -230,12 +231,6 @@ fn key_field(at: usize, most: usize) -> Field
         low: 1,
         high: most as u64,
     }
-}
-
-fn key_byte(byte: u8) -> usize
-    ensures { (result ≡ byte) × (result < 256) }
-{
-    byte as usize
 }
 
 // Refusal 3 goes before refusal 4 (01, "Refusal numbers").
@@ -299,5 +294,5 @@ fn temperature_outside(posted: &[u8; RECORD]) -> Option<usize>
 fn allowed(tenths: i16) -> bool
     ensures { result ≡ (le_z (neg_ℤ (pos 500)) tenths && le_z tenths (pos 600)) }
 {
-    rows::TP_COLDEST <= tenths && tenths <= rows::TP_HOTTEST
+    (rows::TP_COLDEST..=rows::TP_HOTTEST).contains(&tenths)
 }

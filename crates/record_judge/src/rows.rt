@@ -1,7 +1,8 @@
-// The table of the records in code: each mark, and what stands after it, in order.
+// The table of the records in code: what stands after a mark and its key, in the order of the paper's table. The marks' letters are in `mark`, and their keys in
+// `record_table`.
 use record_fields::{Field, Zeros};
 
-// The entries of each mark after its key, in the order of the paper's table. YR
+// YR
 pub const YR_FIRST_YEAR: Field = Field {
     at: 2,
     wide: 2,
