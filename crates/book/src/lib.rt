@@ -1,5 +1,7 @@
 // The book of records: lent memory, sixteen bytes a slot. One that is written stays lent bytes, as C lends it, and each clause asks what they have to be; `Book`
 // is one that is read.
+//
+// A slot is the number that `record_table` gives of a key, and of a key past the table's ends too: that it is one of the book's is what a clause asks.
 #![tactic(auto)]
 
 ghost use Rattle.std.specs.Prelude.{◌≡◌, ◌<◌, Ok, length};

@@ -24,6 +24,7 @@ pub struct Line {
 }
 
 // A function for each field that is read alone: its name is the field's, its contract says where 01's table has it, and the body is the one `book_slots::read`.
+// One generic function for them all would promise what `read` does: it could not say which field of the paper's table it reads.
 pub fn system(book: &Book<'_>, line: usize) -> Option<u64>
     requires { line ≤ lines }
     ensures { result ≡ system_of book.now line }
@@ -40,7 +41,7 @@ pub fn category(book: &Book<'_>, line: usize) -> Option<u64>
     book_slots::read(book, slot, rows::LN_CATEGORY)
 }
 
-// All numbers of a line at once, 0 where no LN stands.
+// All numbers of a line at once. That they are 0 where no LN stands is what the contract promises (docs/CONTRACTS.md), and `system` tells whether one does.
 pub fn line_at(book: &Book<'_>, line: usize) -> Line
     requires { line ≤ lines }
     ensures { result ≡ line_of book.now line }

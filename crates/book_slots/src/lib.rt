@@ -1,7 +1,7 @@
 // One field of one slot of a book, and what stands in the slots of YR, TP, PE and MT. None is a slot that was never filled, and 0 is a value.
 //
 // A month and a device are numbers: a caller counts them, and what a clause asks of one follows from its loop. A type of them would be made and opened again
-// in each call.
+// in each call. A slot is the number that `record_table` gives of a key, of one past the table's ends too: that it is one of a book's is what a clause asks.
 #![tactic(auto, using(crate::proofs::Inside::inside))]
 
 ghost use Rattle.std.specs.Prelude.{◌≡◌, not, [], ◌∷◌, ◌+◌, ◌*◌, ◌≤◌, ◌<◌};
@@ -16,7 +16,8 @@ use book::Book;
 use record_fields::Field;
 use record_judge::rows;
 
-// A function for each field: its name is the field's, its contract says where 01's table has it, and the body is the one `read`.
+// A function for each field: its name is the field's, its contract says where 01's table has it, and the body is the one `read`. One generic function for them
+// all would promise what `read` does: it could not say which field of the paper's table it reads.
 pub fn first_year(book: &Book<'_>) -> Option<u64>
     ensures { result ≡ first_year_of book.now }
 {
