@@ -21,15 +21,8 @@ mod text;
 // One byte more than the longest month has, so that a longer input shows.
 const BUFFER: usize = meter_bytes::LONGEST + 1;
 
-// Where a read or a write fails, one line on standard error says which and why, and the status is 1.
 fn main(rt: HostRuntime) -> ExitCode {
-    match run(&rt) {
-        Ok(()) => ExitCode::SUCCESS,
-        Err(failure) => {
-            let _ = eprintln!(rt; "{failure}");
-            ExitCode::FAILURE
-        }
-    }
+    program_input::ended(&rt, run(&rt))
 }
 
 fn run(rt: &HostRuntime) -> Result<(), Failure> {

@@ -1,1 +1,2 @@
+pub mod Exit
 pub mod Got

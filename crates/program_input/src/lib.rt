@@ -5,8 +5,10 @@
 
 ghost use Rattle.std.specs.Prelude.{◌≡◌, ◌-◌, ◌<◌, length, take};
 ghost use Rattle.program_input.specs.Got.{got_by, Room};
+ghost use Rattle.program_input.specs.Exit.{exit_of};
 
 use std::io::{ErrorKind, Read};
+use std::process::ExitCode;
 use std::{fmt, io};
 
 // How often a read that a signal interrupts is tried.
@@ -24,6 +26,19 @@ impl fmt::Display for Failure {
         match self {
             Failure::Input(error) => write!(f, "standard input: {error}"),
             Failure::Output(error) => write!(f, "standard output: {error}"),
+        }
+    }
+}
+
+// How a program ends: where a read or a write failed, one line on standard error says which and why, and the status is 1.
+pub fn ended(rt: &HostRuntime, outcome: Result<(), Failure>) -> ExitCode
+    ensures { result ≡ exit_of outcome }
+{
+    match outcome {
+        Ok(()) => ExitCode::SUCCESS,
+        Err(failure) => {
+            let _ = eprintln!(rt; "{failure}");
+            ExitCode::FAILURE
         }
     }
 }

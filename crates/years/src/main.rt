@@ -18,15 +18,8 @@ use std::process::ExitCode;
 // How many bytes are read at a time, at most: 4,096 records.
 const BLOCK: usize = 65_536;
 
-// Where a read or a write fails, one line on standard error says which and why, and the status is 1.
 fn main(rt: HostRuntime) -> ExitCode {
-    match run(&rt) {
-        Ok(()) => ExitCode::SUCCESS,
-        Err(failure) => {
-            let _ = eprintln!(rt; "{failure}");
-            ExitCode::FAILURE
-        }
-    }
+    program_input::ended(&rt, run(&rt))
 }
 
 fn run(rt: &HostRuntime) -> Result<(), Failure> {
@@ -34,6 +27,7 @@ fn run(rt: &HostRuntime) -> Result<(), Failure> {
     let mut block = [0u8; BLOCK];
     let mut page = [0u8; print_years::PAGE_BYTES];
     let mut input = rt.reader();
+    // A match, since `map_err(..)?` loses that the end lies within the page.
     match lay_input(&mut input, &mut book, &mut block, &mut page) {
         Ok(end) => rt.write_all(&page[..end]).map_err(Failure::Output),
         Err(error) => Err(Failure::Input(error)),
