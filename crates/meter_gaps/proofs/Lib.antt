@@ -1,4 +1,5 @@
 pub mod Determined
+pub mod Ends
 pub mod Filled
 pub mod Maximal
 pub mod Sizes

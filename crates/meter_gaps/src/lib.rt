@@ -78,18 +78,14 @@ impl Month<'_> {
         self.fill_of(start, self.end_from(start))
     }
 
-    // The first recorded hour from `start` on, or the month's end. The loop counts the hours, since the number of one is what it looks for.
-    #[tactic(auto, using(laws::proofs::Counting::search_stops, laws::proofs::Counting::search_passes, laws::proofs::Counting::search_ends))]
+    // The first recorded hour from `start` on, or the month's end.
     fn end_from(&self, start: usize) -> usize
         requires { start ≤ length self.now.hours.now }
         ensures { result ≡ end_of (series self.now.hours.now) (length self.now.hours.now) start }
     {
-        for end in start..self.hours.len() {
-            if self.hours[end].is_some() {
-                return end;
-            }
-        }
-        self.hours.len()
+        (start..self.hours.len())
+            .find(|end| self.hours[*end].is_some())
+            .unwrap_or(self.hours.len())
     }
 
     // What fills the run from `start` up to `end`.
