@@ -28,7 +28,7 @@ impl Model for Floats {
 }
 
 impl Floats {
-    // Floats of the input, one after the other from `at` on.
+    // Floats of the input, one after the other from `at` on. The number of each is its place, which `float_at` asks for, since it reads from the whole input.
     #[tactic(auto, using(crate::proofs::EachFloat::floats_begin))]
     pub(crate) fn read(input: &[u8], at: usize, count: usize) -> Floats
         requires { (count ≤ most_hours) × (at + float_bytes * count ≤ length input.now) }

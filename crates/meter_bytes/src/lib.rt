@@ -72,7 +72,7 @@ struct Counts {
 }
 
 impl Counts {
-    // Those of a header: three in cubic metres, and five in cubic feet.
+    // Those of a header: three in cubic metres, and five in cubic feet. It is a match, since what a header counts differs by kind.
     fn read(kind: Kind, input: &[u8]) -> Counts
         requires { header_bytes kind ≤ length input.now }
         ensures said { result ≡ counts_of kind input.now }

@@ -17,13 +17,15 @@ pub struct Sample {
     pub pressure: f32,
 }
 
-// What is added to a state where there is no temperature or no pressure, beside what `meter_state` has for the others.
+// What is added to a state where there is no temperature or no pressure, beside what `meter_state` has for the others. The parts add up, so that it stays
+// a number, as they do there.
 const NOT_CORRECTED: u8 = 8;
 
 // The highest state: all of these, and the device out.
 const MOST_STATE: u8 = 15;
 
-// What an hour, from 0, records; `None` says that it is refused.
+// What an hour, from 0, records; `None` says that it is refused. Each list is lent by itself, as C lends it to the month, and the clause asks that the
+// hour stands in each, as in `meter_state::reading_at`.
 #[tactic(auto, using(meter_state::proofs::States::before_end), unfolding(crate::specs::Feet::hour_at))]
 pub fn recorded_at(
     flows: &[f32],

@@ -25,7 +25,8 @@ pub struct Recorded {
 // The highest state: neither value, and the device out.
 const MOST_STATE: u8 = 7;
 
-// What an hour, from 0, records; `None` says that it is refused.
+// What an hour, from 0, records; `None` says that it is refused. Each list is lent by itself, as C lends it to the month, and the clause asks that the
+// hour stands in each, as in `meter_state::reading_at`.
 #[tactic(auto, using(meter_state::proofs::States::before_end), unfolding(crate::specs::Hour::hour_at))]
 pub fn recorded_at(flows: &[f32], contents: &[f32], states: &[u8], hour: usize) -> Option<Recorded>
     requires { (hour < length flows.now) × (hour < length contents.now) × (hour < length states.now) }
@@ -62,7 +63,8 @@ pub enum Kind {
     CubicFeet,
 }
 
-// What an hour destroyed, by what it recorded and what it has after filling.
+// What an hour destroyed, by what it recorded and what it has after filling. That flow and content are within their most is asked here, in `weigh` and in
+// `Kind::grams`, and is in no type: the most of a flow is its kind's, and `Recorded` has no kind.
 #[tactic(auto, using(crate::proofs::Sizes::share_most, crate::proofs::Sizes::grams_most_lem), unfolding(crate::specs::Hour::hour_of))]
 pub fn hour_grams(
     kind: Kind,
@@ -80,7 +82,7 @@ pub fn hour_grams(
     if recorded.flow.is_none() && recorded.content.is_none() {
         return Methane::of_grams(0);
     }
-    weigh(kind, filled).share(efficiency as u64, WHOLE_EFFICIENCY as u64)
+    weigh(kind, filled).share(u64::from(efficiency), u64::from(WHOLE_EFFICIENCY))
 }
 
 // The methane of an hour; none where its flow or its content is missing.

@@ -72,6 +72,7 @@ fn of_meter(meter: &Meter, efficiency: u32) -> Result<Methane, Refusal>
     if meter_hour::WHOLE_EFFICIENCY < efficiency {
         return Err(Reason::OutOfRange.at(0));
     }
+    // Two arrays, and not one of `Recorded`, since `meter_gaps::fill` fills one series, whatever it counts.
     let mut flows = [None; MOST_HOURS];
     let mut contents = [None; MOST_HOURS];
     record_hours(meter, &mut flows, &mut contents)?;
@@ -147,7 +148,7 @@ fn destroyed(kind: Kind, efficiency: u32, states: &[u8], recorded: &Series) -> M
     sum(kind, efficiency, states, recorded, &filled)
 }
 
-// The sum over the hours of what each destroyed.
+// The sum over the hours of what each destroyed. It counts the hours, since an hour's number asks both what was recorded and what is filled.
 #[tactic(auto, using(crate::proofs::Totals::grams_none, crate::proofs::Totals::grams_more, meter_state::proofs::States::before_end))]
 fn sum(kind: Kind, efficiency: u32, states: &[u8], recorded: &Series, filled: &Series) -> Methane
     requires one_month { (length states.now ≤ most_hours) × (efficiency ≤ whole_efficiency) }

@@ -4,7 +4,7 @@
 ghost use Rattle.std.specs.Prelude.{◌≡◌, ◌<◌, length};
 ghost use Rattle.meter_state.specs.State.{has, is_out, reading_at};
 
-// Flow and content, one of them, or nothing: the form that the paper names for an hour's reading.
+// Flow and content, one of them, or nothing: the form that stands for an hour's reading (docs/DECISIONS.md, "Forms").
 #[derive(Clone, Copy)]
 pub enum Reading {
     Both(f32, f32),

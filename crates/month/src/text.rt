@@ -1,4 +1,4 @@
-// What the month prints.
+// What the month prints. It is laid, and not written by `Display`, as `print_page` says.
 ghost use Rattle.std.specs.Prelude.{◌≤◌, length};
 ghost use Rattle.print_page.specs.Page.{Lays};
 ghost use Rattle.month.specs.Text.{destroyed_text, answer_text, text_bytes};
