@@ -28,7 +28,8 @@ impl Model for Floats {
 }
 
 impl Floats {
-    // Floats of the input, one after the other from `at` on. The number of each is its place, which `float_at` asks for, since it reads from the whole input.
+    // Floats of the input, one after the other from `at` on. It counts them, since a proof would know nothing of what a walk over the array and the input's
+    // chunks at once has written.
     #[tactic(auto, using(crate::proofs::EachFloat::floats_begin))]
     pub(crate) fn read(input: &[u8], at: usize, count: usize) -> Floats
         requires { (count ≤ most_hours) × (at + float_bytes * count ≤ length input.now) }
