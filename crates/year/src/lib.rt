@@ -38,7 +38,7 @@ pub fn year(book: &Book<'_>, year: u64) -> Result<Figures, Refusal>
     ensures { result ≡ answer_of book.now year }
 {
     book.known();
-    if year < FIRST_YEAR || LAST_YEAR < year {
+    if !(FIRST_YEAR..=LAST_YEAR).contains(&year) {
         return Err(Reason::NoSuchYear.at(0));
     }
     let counted = Year::of(year as usize);

@@ -1,4 +1,5 @@
 // The year's credit: what the operator entered, the lesser of modelled and metered, and the total.
+// Months, lines and categories are numbers that a clause ranges, as in `book_slots`, which says why.
 #![tactic(auto)]
 
 ghost use Rattle.std.specs.Prelude.{◌≡◌, ◌≤◌, ◌<◌, ◌^◌, pos};
@@ -15,7 +16,8 @@ use year_months::{MONTHS_IN_YEAR, Year};
 const KILOGRAM: u64 = 1_000;
 
 // What the operator entered: project methane, the baseline's and the project's carbon dioxide, and what
-// the devices destroyed.
+// the devices destroyed. That they are small (`OperatorFits`) is no fact of the type: the definition makes an `Operator` of
+// any bytes, and those of a valid book alone are small.
 #[derive(Clone, Copy)]
 pub struct Operator {
     pub project_methane: Co2e,
@@ -75,7 +77,8 @@ fn destroyed_in(book: &Book<'_>, month: usize) -> Methane
     destroyed
 }
 
-// The methane reduction, plus the baseline's carbon dioxide, less the project's.
+// The methane reduction, plus the baseline's carbon dioxide, less the project's. That a mass is below `sums_most` is a fact of
+// this one mass, which a `Co2e` need not have: it may be of any number of grams.
 pub fn total(baseline: Co2e, operator: Operator) -> i64
     requires baseline_fits { baseline.0 < sums_most }
     requires operator_fits { OperatorFits operator }

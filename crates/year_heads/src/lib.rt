@@ -1,4 +1,5 @@
 // The heads of a year, summed: the annual average population of Equations 5.3 and 5.4, twelve times.
+// Months, lines and categories are numbers that a clause ranges, as in `book_slots`, which says why.
 #![tactic(auto)]
 
 ghost use Rattle.std.specs.Prelude.{◌≡◌, ◌≤◌};
@@ -11,15 +12,10 @@ use record_table::CATEGORIES;
 use year_months::{MONTHS_IN_YEAR, Year};
 
 // The sum of the year's twelve heads of each category, first to last. All lines of a category share it.
-#[tactic(auto, using(year_months::proofs::Arrays::array_begins, year_months::proofs::Arrays::array_more, year_months::proofs::Arrays::array_full))]
 pub fn by_category(book: &Book<'_>, year: Year) -> [u64; CATEGORIES]
     ensures { HoldsHeads book.now year result }
 {
-    let mut heads = [0u64; CATEGORIES];
-    for (passed, sum) in heads.iter_mut().enumerate() {
-        *sum = of_category(book, year, passed + 1);
-    }
-    heads
+    std::array::from_fn(|passed| of_category(book, year, passed + 1))
 }
 
 #[tactic(auto, using(laws::proofs::Counting::sum_none, laws::proofs::Counting::sum_more), unfolding(crate::specs::Heads::heads_of))]

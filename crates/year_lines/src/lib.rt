@@ -1,14 +1,16 @@
 // The lines of a year: Equation 5.3 for the anaerobic ones, month by month from the first, and Equation 5.4
 // for the others.
+// Months, lines and categories are numbers that a clause ranges, as in `book_slots`, which says why.
 #![tactic(auto)]
 
-ghost use Rattle.std.specs.Prelude.{◌≡◌, ℕ, ◌-◌, ◌≤◌, ◌<◌, ◌^◌, Some};
+ghost use Rattle.std.specs.Prelude.{◌≡◌, ℕ, ◌+◌, ◌-◌, ◌≤◌, ◌<◌, ◌^◌, Some};
+ghost use Rattle.calendar.specs.Days.{months_in_year};
 ghost use Rattle.lagoon_month.specs.Asks.{heads_most};
 ghost use Rattle.lagoon_month.specs.declared.Month.{Month};
 ghost use Rattle.lagoon_run.specs.Run.{no_month};
 ghost use Rattle.record_table.specs.Table.{lines, categories};
 ghost use Rattle.book_herd.specs.Herd.{system_of, line_of};
-ghost use Rattle.year_months.specs.Series.{days_at, factor_at};
+ghost use Rattle.year_months.specs.Series.{months_before, days_at, factor_at};
 ghost use Rattle.year_months.specs.Asks.{InPeriod, HoldsYear};
 ghost use Rattle.year_heads.specs.Heads.{heads_of};
 ghost use Rattle.year_heads.specs.Asks.{HoldsHeads};
@@ -25,7 +27,7 @@ use year_sums::Sums;
 
 const LINES: usize = record_table::LINES;
 
-// LN's system 0: a byte of the record, which is matched in this place alone, so that no type stands for the systems.
+// LN's system 0: a byte of the record. The year asks a line's system in one match, and an enum would be made by the same match.
 const ANAEROBIC: u64 = 0;
 
 // 12, for the average of the year's heads, times 10,000,000, which brings the fields' units to grams.
@@ -118,37 +120,38 @@ impl<'a, 'b> YearFigures<'a, 'b> {
     }
 
     // The months of an anaerobic line in the year, first to last.
-    #[tactic(auto, using(year_months::proofs::Arrays::array_begins, year_months::proofs::Arrays::array_full, crate::proofs::Own::own))]
     fn months_of_line(&self, line: usize, numbers: Line) -> [Month; MONTHS_IN_YEAR]
         requires line_of_book { line ≤ lines }
         requires is_anaerobic { system_of self.now.book.now line ≡ Some anaerobic }
         requires its_numbers { numbers ≡ line_of self.now.book.now line }
         ensures { HoldsYear Month no_month self.now.year (month_at self.now.book.now line) result }
     {
+        std::array::from_fn(|passed| self.month_of_line(line, numbers, passed))
+    }
+
+    // A month of such a line, after so many of the year.
+    #[tactic(auto, using(crate::proofs::Own::own, crate::proofs::Entered::month_is))]
+    fn month_of_line(&self, line: usize, numbers: Line, passed: usize) -> Month
+        requires line_of_book { line ≤ lines }
+        requires is_anaerobic { system_of self.now.book.now line ≡ Some anaerobic }
+        requires its_numbers { numbers ≡ line_of self.now.book.now line }
+        requires of_year { passed < months_in_year }
+        ensures { result ≡ month_at self.now.book.now line (months_before self.now.year + passed + 1) }
+    {
         self.book.known();
-        let heads = self.own_heads(numbers);
-        let before = self.year.months_before();
-        let none = Month {
-            entered: Solids::of_grams(0),
-            factor: 0,
-            drained: false,
-        };
-        let mut months = [none; MONTHS_IN_YEAR];
-        for (passed, month) in months.iter_mut().enumerate() {
-            let entered = lagoon_month::entered(
-                heads,
-                numbers.solids,
-                numbers.mass,
-                numbers.share,
-                self.days[passed],
-            );
-            *month = Month {
-                entered,
-                factor: self.factors[passed],
-                drained: book_herd::drained(self.book, line, before + passed + 1),
-            };
+        let month = self.year.months_before() + passed + 1;
+        let entered = lagoon_month::entered(
+            self.own_heads(numbers),
+            numbers.solids,
+            numbers.mass,
+            numbers.share,
+            self.days[passed],
+        );
+        Month {
+            entered,
+            factor: self.factors[passed],
+            drained: book_herd::drained(self.book, line, month),
         }
-        months
     }
 
     // The sum of the year's heads of a line's category.

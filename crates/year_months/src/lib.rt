@@ -26,32 +26,25 @@ pub fn days(book: &Book<'_>, year: Year) -> [u64; MONTHS_IN_YEAR]
     lengths(first_year, first_month, year.months_before())
 }
 
-#[tactic(auto, using(crate::proofs::Arrays::array_begins, crate::proofs::Arrays::array_more, crate::proofs::Arrays::array_full))]
 fn lengths(first_year: u64, first_month: u64, before: usize) -> [u64; MONTHS_IN_YEAR]
     requires first_year_within { first_year ≤ 2089 }
     requires first_month_within { first_month ≤ 12 }
     requires months_within { before + months_in_year ≤ months }
     ensures { Holds ℕ 0 months_in_year before months_in_year (days_of first_year first_month) result }
 {
-    let mut lengths = [0u64; MONTHS_IN_YEAR];
-    for (passed, days) in lengths.iter_mut().enumerate() {
+    std::array::from_fn(|passed| {
         let month = before + passed + 1;
-        *days = calendar::days(first_year, first_month, month as u64);
-    }
-    lengths
+        calendar::days(first_year, first_month, month as u64)
+    })
 }
 
-// The factors of the year's months, first to last; 0 where the temperature is not known.
-#[tactic(auto, using(crate::proofs::Arrays::array_begins, crate::proofs::Arrays::array_more, crate::proofs::Arrays::array_full), unfolding(crate::specs::Series::factor_at))]
+// The factors of the year's months, first to last; 0 where the temperature is not known. The contract promises that 0, so that no entry is an `Option`.
+#[tactic(auto, unfolding(crate::specs::Series::factor_at))]
 pub fn factors(book: &Book<'_>, year: Year) -> [u64; MONTHS_IN_YEAR]
     ensures { HoldsYear ℕ 0 year (factor_at book.now) result }
 {
     let before = year.months_before();
-    let mut factors = [0u64; MONTHS_IN_YEAR];
-    for (passed, factor) in factors.iter_mut().enumerate() {
-        *factor = factor_by(book_slots::temperature(book, before + passed + 1));
-    }
-    factors
+    std::array::from_fn(|passed| factor_by(book_slots::temperature(book, before + passed + 1)))
 }
 
 fn factor_by(temperature: Option<i16>) -> u64

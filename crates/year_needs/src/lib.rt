@@ -1,4 +1,5 @@
 // The records that a year has to have before it is stated: refusal 8.
+// Months, lines and categories are numbers that a clause ranges, as in `book_slots`, which says why.
 #![tactic(auto)]
 
 ghost use Rattle.std.specs.Prelude.{◌≡◌, ◌&&◌, ◌≤◌, Some};
@@ -10,7 +11,7 @@ use book::Book;
 use refusals::{Reason, Refusal};
 use year_months::Year;
 
-// Room for a flag at each category number. A line that is not in the book has number 0.
+// Room for a flag at each category number. The entry at 0 is for a line that is not in the book; nothing reads it.
 const CATEGORY_FLAGS: usize = record_table::CATEGORIES + 1;
 
 // Whether a year has the records that it needs. YR and a line are looked at first, and then each month

@@ -12,7 +12,7 @@ use refusals::{Reason, Refusal};
 // Shares count ten-thousandths.
 const WHOLE_SHARE: u64 = 10_000;
 
-// Room for a sum at each category number. A line that is not in the book has number 0.
+// Room for a sum at each category number. The entry at 0 is for a line that is not in the book; nothing reads it.
 const CATEGORY_SUMS: usize = record_table::CATEGORIES + 1;
 
 // Whether the shares of each category fit into the whole: else the lowest category whose shares do not.

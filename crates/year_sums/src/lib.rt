@@ -40,7 +40,7 @@ impl Sums {
         }
     }
 
-    // Of an anaerobic line, by its year's solids.
+    // Of an anaerobic line, by its year's solids. Its B0 is a number of its record, and within that field's range.
     pub fn anaerobic(totals: Totals, b0: u64) -> Self
         requires { (totals.degraded.0 < grams_most) × (b0 ≤ 100) }
         ensures { result ≡ anaerobic_of totals b0 }
