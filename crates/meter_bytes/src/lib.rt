@@ -50,7 +50,8 @@ pub fn stated(input: &[u8]) -> Result<Methane, Refusal>
     }
 }
 
-// The month of an input with this kind's mark.
+// The month of an input with this kind's mark. Kind, input and counts go on to `whole` and to `lent`, each of which takes them apart: a struct of the three
+// would be made for these two calls alone.
 #[tactic(auto, using(crate::proofs::Headers::short_none, crate::proofs::Headers::counted_is))]
 fn counted(kind: Kind, input: &[u8]) -> Result<Methane, Refusal>
     ensures { result ≡ counted_of kind input.now }

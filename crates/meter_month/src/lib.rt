@@ -131,7 +131,8 @@ impl Series<'_> {
     }
 }
 
-// Grams destroyed in a month, by what each hour recorded: the gaps are filled, and the hours summed.
+// Grams destroyed in a month, by what each hour recorded: the gaps are filled, and the hours summed. Kind, efficiency and states go on as they came, to be
+// taken apart by each hour.
 fn destroyed(kind: Kind, efficiency: u32, states: &[u8], recorded: &Series) -> Methane
     requires as_long { AsLong (length recorded.now.flows.now) (length recorded.now.contents.now) (length states.now)
         × (efficiency ≤ whole_efficiency) }

@@ -52,7 +52,7 @@ pub fn sums_of(book: &Book<'_>, year: Year) -> Sums
 }
 
 // A year of a book, with what it has for all its lines alike: the sum of each category's heads, and the days and
-// the factor of each month. It is worked out once.
+// the factor of each month, which stand apart as `year_months` gives them. It is worked out once.
 #[derive(Drop)]
 struct YearFigures<'a, 'b> {
     book: &'a Book<'b>,
