@@ -9,13 +9,9 @@ use lib.Dec.{eqb}
 use Rattle.std.specs.Prelude.{Option, None, Some}
 use Rattle.std.specs.Option.{MatchOption, unwrap_or}
 use Rattle.laws.specs.Counting.{first_from}
+use Rattle.laws.proofs.Counting.{first_past}
 
 module _ (test : ℕ → Bool) where
-  passes : (a n : ℕ) → ((k : ℕ) → a ≤ k → k < a + n → test k ≡ false) → a + n ≡ first_from a n test
-  unfolding first_from
-  passes a zero h = omega arith
-  passes a (suc n) h = simp (h a (omega arith) (omega arith)) (omega (arith, passes (a + 1) n (λ k l m. h k (omega arith) (omega arith))))
-
   stops : (a n j : ℕ) → a ≤ j → j < a + n → test j ≡ true → ((k : ℕ) → a ≤ k → k < j → test k ≡ false) → j ≡ first_from a n test
   unfolding first_from
   stops a zero j l m t before = let z : ⊥ = omega arith in absurd z
@@ -34,5 +30,5 @@ module _ (test : ℕ → Bool) where
       (λ j. (a ≤ j) × (j < end) × (test j ≡ true) × ((k : ℕ) → a ≤ k → k < j → test k ≡ false))
 
   pub searched : (a end : ℕ) (found : Option ℕ) → a ≤ end → Found a end found → unwrap_or found end ≡ first_from a (end - a) test
-  searched a end None inside f = let whole : a + (end - a) ≡ end = omega arith in sym whole ∙ passes a (end - a) (λ k l m. f k l (omega (arith, whole)))
+  searched a end None inside f = let whole : a + (end - a) ≡ end = omega arith in sym whole ∙ sym (first_past a (end - a) test (λ k l m. f k l (omega (arith, whole))))
   searched a end (Some j) inside f = stops a (end - a) j f.0 (omega (arith, f.1)) f.2 f.3

@@ -10,8 +10,8 @@ ghost use Rattle.meter_hour.specs.Room.{most_flow, most_content};
 use meter_state::Reading;
 use units::Methane;
 
-// The efficiency of a device that destroys all methane: efficiency counts ten-thousandths. It stays the number that C gives, and a function that is not
-// asked for refusals says in a clause what it asks of it.
+// The efficiency of a device that destroys all methane: efficiency counts ten-thousandths. One stays the number that C gives: a month refuses what is above
+// this, and `hour_grams` asks for what is not.
 pub const WHOLE_EFFICIENCY: u32 = 10_000;
 
 // What an hour recorded, or has after filling: its flow, in what the meter's kind counts, and its content, in hundredths of a per cent, each
