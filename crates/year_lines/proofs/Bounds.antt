@@ -16,7 +16,7 @@ use Rattle.lagoon_month.specs.Asks.{heads_most, entered_most, grams_most}
 use Rattle.lagoon_month.proofs.Entry.{four}
 use Rattle.lagoon_run.specs.Asks.{RunFits}
 use Rattle.lagoon_factor.specs.Rule.{million}
-use Rattle.lagoon_month.specs.Month.{empty_of}
+use Rattle.lagoon_month.specs.Month.{empty_of, available_of}
 use Rattle.lagoon_run.specs.Run.{run_from, run_of, after, year_of, no_month, months_of}
 use Rattle.lagoon_month.specs.declared.Month.{Month}
 use Rattle.lagoon_month.specs.declared.Standing.{Standing}
@@ -93,6 +93,15 @@ module _ (book : List ℕ) (v : Valid book) (line : ℕ) (there : line ≤ lines
       let came-on = entered_at_most standing (after k run) entered_most 12 (λ m low high. month_entered (k + m) (omega (arith, period.high))) in
       let high = period.high in
       record { entered = omega arith; degraded = omega arith; removed = omega arith; carried = omega arith }
+
+  -- a month of the crediting period, after those before it, from an empty lagoon
+  pub month_fits :
+      (n : ℕ) {standing : Standing} {month : Month} → n < months → standing ≡ (run_of (month_at book line) n).standing → month ≡ month_at book line (n + 1) →
+      (available_of standing month < grams_most) × (month.factor ≤ million)
+  month_fits n inside stands is =
+      let carried =
+      standing_most empty_of (month_at book line) n (λ m low high. month_factor m) (λ m low high. month_entered m (omega (arith, inside))) in
+      let came = month_entered (n + 1) (omega (arith, inside)) in rw (stands, is) (omega (arith, carried, came), month_factor (n + 1))
 
   -- the months of a year that the code makes from the book
   module _ (year : ℕ) (period : InPeriod year) {list : List Month} (held : HoldsYear Month no_month year (month_at book line) list)

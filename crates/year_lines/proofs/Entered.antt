@@ -2,7 +2,7 @@
 use Prim.Native.Nat.{ℕ, ◌+◌, ◌≤◌, ◌<◌}
 use mathlib.Core.Bool.{Bool}
 use mathlib.Core.List.{List}
-use mathlib.Core.Path.{ap, sym, ◌≡◌, ◌∙◌}
+use mathlib.Core.Path.{refl, ap, sym, ◌≡◌, ◌∙◌}
 use native.Mathlib.Decide.{dec_lt}
 use native.Mathlib.Omega.{arith}
 use lib.ListN.{get_or, get_or-eq_default}
@@ -31,27 +31,30 @@ days_held book year {days} held i =
 abbrev pub made : Solids → ℕ → Bool → Month
 made entered factor drained = record { entered = entered; factor = factor; drained = drained }
 
-module _ (book : List ℕ) (line year : ℕ) (some : 1 ≤ year) {numbers : Line} {heads before : ℕ} (read : numbers ≡ line_of book line)
-    (summed : heads ≡ heads_of book year numbers.category) (begins : before ≡ months_before year) (passed : ℕ) (inside : passed < months_in_year)
-    {days factors : List ℕ} (has_days : HoldsYear ℕ 0 year (days_at book) days) (has_factors : HoldsYear ℕ 0 year (factor_at book) factors) where
+module _ (book : List ℕ) (line year : ℕ) {before : ℕ} (begins : before ≡ months_before year) (passed : ℕ) (inside : passed < months_in_year) where
   abbrev here : ℕ
   here = before + passed + 1
 
-  own : year ≡ year_at here
-  own =
+  own : 1 ≤ year → year ≡ year_at here
+  own some =
       let e : months_before year + (passed + 1) ≡ here = omega (arith, begins) in
       sym (own_year year (passed + 1) some (omega arith) (omega arith)) ∙ ap year_at e
 
+  pub entry_is :
+      1 ≤ year → {numbers : Line} {heads : ℕ} → numbers ≡ line_of book line → heads ≡ heads_of book year numbers.category → {days : List ℕ} →
+      HoldsYear ℕ 0 year (days_at book) days → {entered : Solids} → entered ≡ entered_by heads numbers (get_or days passed 0) →
+      entered ≡ entered_at book line here
+  unfolding entered_at
+  entry_is some {numbers} read summed has_days came =
+      let days_are = array_at has_days passed inside ∙ ap (λ (b : ℕ). days_at book (b + passed + 1)) (sym begins) in
+      rw (came, days_are)
+      (ap (λ (h : ℕ). entered_by h numbers (days_at book here)) (summed ∙ ap (λ (y : ℕ). heads_of book y numbers.category) (own some)) ∙
+      ap (λ (x : Line). entered_by (heads_of book (year_at here) x.category) x (days_at book here)) read)
+
   pub month_is :
-      {entered : Solids} {drained : Bool} → entered ≡ entered_by heads numbers (get_or days passed 0) → drained ≡ drained_of book line here →
-      made entered (get_or factors passed 0) drained ≡ month_at book line here
-  unfolding month_at entered_at
-  month_is came drained_is =
-      let days_are : get_or days passed 0 ≡ days_at book here =
-      array_at has_days passed inside ∙ ap (λ (b : ℕ). days_at book (b + passed + 1)) (sym begins) in
-      let factor_is : get_or factors passed 0 ≡ factor_at book here =
-      array_at has_factors passed inside ∙ ap (λ (b : ℕ). factor_at book (b + passed + 1)) (sym begins) in
-      rw (came, days_are, factor_is, drained_is)
-      (ap (λ (h : ℕ). made (entered_by h numbers (days_at book here)) (factor_at book here) (drained_of book line here))
-      (summed ∙ ap (λ (y : ℕ). heads_of book y numbers.category) own) ∙
-      ap (λ (x : Line). made (entered_by (heads_of book (year_at here) x.category) x (days_at book here)) (factor_at book here) (drained_of book line here)) read)
+      {factors : List ℕ} → HoldsYear ℕ 0 year (factor_at book) factors → {entered : Solids} {drained : Bool} → entered ≡ entered_at book line here →
+      drained ≡ drained_of book line here → made entered (get_or factors passed 0) drained ≡ month_at book line here
+  unfolding month_at
+  month_is has_factors came drained_is =
+      let factor_is = array_at has_factors passed inside ∙ ap (λ (b : ℕ). factor_at book (b + passed + 1)) (sym begins) in
+      rw (came, factor_is, drained_is) refl

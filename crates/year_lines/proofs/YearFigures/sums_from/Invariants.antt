@@ -1,12 +1,7 @@
--- After so many lines the sums are theirs, and their standings are renewed. Assumes nothing.
+-- After so many lines the sums are theirs. Assumes nothing.
 use mathlib.Core.Path.{◌≡◌}
 use Rattle.year_lines.specs.Lines.{all, line_in, sums_over}
-use Rattle.year_lines.proofs.Carrying.{Renewed}
 use Rattle.year_lines.proofs.YearFigures.sums_from.Given as goal
 
 abbrev pub invariant-loop-passed : goal.invariant-loop-passed
-invariant-loop-passed l =
-    record {
-      summed : l.sums ≡ sums_over (line_in l.self.book.now l.self.year) all l.passed;
-      renewed : Renewed l.self.book.now l.self.year l.passed l.standings;
-    }
+invariant-loop-passed l = l.sums ≡ sums_over (line_in l.self.book.now l.self.year) all l.passed
