@@ -5,3 +5,4 @@ pub mod Maximal
 pub mod Sizes
 pub mod Stepping
 pub mod Within
+mod Walk

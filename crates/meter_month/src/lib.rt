@@ -2,7 +2,7 @@
 // number of times, and nothing lent is written.
 #![tactic(auto)]
 
-ghost use Rattle.std.specs.Prelude.{◌≡◌, ◌≤◌, length};
+ghost use Rattle.std.specs.Prelude.{◌≡◌, ◌≤◌, ◌<◌, length};
 ghost use Rattle.units.specs.Grams.{methane};
 ghost use Rattle.meter_state.specs.State.{state_at};
 ghost use Rattle.meter_series.specs.Series.{series, most_hours, AtMost};
@@ -122,11 +122,12 @@ struct Series<'a> {
 impl Series<'_> {
     // An hour, from 0.
     fn at(&self, hour: usize) -> Recorded
+        requires { (hour < length self.now.flows.now) × (hour < length self.now.contents.now) }
         ensures { result ≡ both_at (series self.now.flows.now) (series self.now.contents.now) hour }
     {
         Recorded {
-            flow: meter_series::at(self.flows, hour),
-            content: meter_series::at(self.contents, hour),
+            flow: self.flows[hour],
+            content: self.contents[hour],
         }
     }
 }
@@ -153,6 +154,8 @@ fn destroyed(kind: Kind, efficiency: u32, states: &[u8], recorded: &Series) -> M
 #[tactic(auto, using(crate::proofs::Totals::grams_none, crate::proofs::Totals::grams_more, meter_state::proofs::States::before_end))]
 fn sum(kind: Kind, efficiency: u32, states: &[u8], recorded: &Series, filled: &Series) -> Methane
     requires one_month { (length states.now ≤ most_hours) × (efficiency ≤ whole_efficiency) }
+    requires of_each_hour { (length states.now ≤ length recorded.now.flows.now) × (length states.now ≤ length recorded.now.contents.now)
+        × (length states.now ≤ length filled.now.flows.now) × (length states.now ≤ length filled.now.contents.now) }
     requires at_most { AtMost (most_flow kind) filled.now.flows.now × AtMost most_content filled.now.contents.now }
     ensures { result ≡ methane (grams_of kind efficiency (state_at states.now)
         (series recorded.now.flows.now) (series recorded.now.contents.now)

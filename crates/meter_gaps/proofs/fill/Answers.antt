@@ -1,28 +1,31 @@
--- `meter_gaps::fill` meets its contract, by what `Filled` and `Stepping` say of an hour more.
--- Assumes nothing.
-use mathlib.Core.Path.{◌≡◌, refl, ◌∙◌}
-use Prim.Native.Nat.{ℕ}
+-- `meter_gaps::fill` meets its contract, by what `Walk` says of an hour more. Assumes nothing.
+use mathlib.Core.Path.{ap, ◌∙◌}
+use mathlib.Core.Bool.{not}
 use native.Mathlib.Omega.{arith}
-use borrow.Author.Count.{below_none}
-use lib.ListN.{length, length-set}
-use Rattle.meter_series.specs.Series.{series, most_hours}
-use Rattle.meter_gaps.specs.Filling.{fill_from, filled}
-use Rattle.meter_series.proofs.Arrays.{nothing, stored, later}
-use Rattle.meter_gaps.proofs.Filled.{filled_here}
-use Rattle.meter_gaps.proofs.Stepping.{start_kept}
+use Rattle.meter_gaps.proofs.Walk.{walk_begun, walk_filled, walk_passed, walk_ended}
+use Rattle.meter_gaps.proofs.fill.Goals.{then-is_none, else-is_none}
 use Rattle.meter_gaps.proofs.fill.Goals as goal
 
 pub loop-hour-init : goal.loop-hour-init
-loop-hour-init c = record { room = refl; known = λ l. absurd (omega arith); passed = below_none _; ahead = λ k l. nothing most_hours k }
+loop-hour-init c = walk_begun c.args.hours.now c.copy_from_slice.new.self c.copy_from_slice.ensures.after c.requires.one_month
+
+pub filling_at-filling-requires-clause-known_past_start : goal.filling_at-filling-requires-clause-known_past_start
+filling_at-filling-requires-clause-known_past_start c = c.loop-hour.invariant.known
 
 pub loop-hour-preserved : goal.loop-hour-preserved
 loop-hour-preserved c =
-    let hours = series c.args.hours.now in
-    let n = length c.args.hours.now in
+    let hours = c.args.hours.now in
     let l = c.loop-hour in
-    let here : c.or.result ≡ filled hours n l.hour = c.or.ensures ∙ filled_here hours n l.hour c.filling_at-filling.result c.filling_at-filling.ensures (omega arith) in record {
-      room = simp length-set (omega arith);
-      known = start_kept hours l.hour (λ (a : ℕ). c.filling_at-filling.result ≡ fill_from hours n a) c.filling_at-filling.ensures;
-      passed = stored l.out l.hour c.or.result (filled hours n) (omega arith) l.invariant.passed here;
-      ahead = later l.out l.hour c.or.result l.invariant.ahead;
-    }
+    elim c.if-is_none.branch [
+      | then-is_none w ↦ rw (w.out-is, w.filling-is)
+          (walk_filled hours l.out l.hour l.filling (omega arith) l.invariant w.filling_at-filling.result c.requires.one_month
+          (c.is_none.ensures ∙ ap not w.if-is_none.true) w.filling_at-filling.ensures)
+      | else-is_none w ↦ rw (w.out-is, w.filling-is)
+          (walk_passed hours l.out l.hour l.filling (omega arith) l.invariant (c.is_none.ensures ∙ ap not w.if-is_none.false))
+    ]
+
+pub returns-clause-result_len : goal.returns-clause-result_len
+returns-clause-result_len c = c.loop-hour.invariant.room
+
+pub returns-clause-by_index : goal.returns-clause-by_index
+returns-clause-by_index c = walk_ended c.args.hours.now c.loop-hour.out c.loop-hour.hour c.loop-hour.filling (omega arith) c.loop-hour.invariant
