@@ -5,9 +5,13 @@ use Prim.Native.Nat.{ℕ, suc, ◌+◌, ◌-◌, ◌≤◌, ◌<◌}
 use native.Mathlib.Numerals.{add-one}
 use native.Mathlib.Omega.{arith}
 use borrow.Rule.Slice.PartMut.{put_mid}
-use lib.ListN.{length, take, drop, set, length-append}
+use lib.ListN.{length, take, drop, set, length-append, length-take, length-drop}
 use lib.Seq.{take_at, length-take-le, drop-drop, drop-append-add, set_split, append_snoc}
 use Rattle.print_page.specs.Page.{laid, Lays}
+
+pub laid_length : (page : List ℕ) (at : ℕ) (text : List ℕ) → at + length text ≤ length page → length (laid page at text) ≡ length page
+unfolding laid
+laid_length page at text room = simp (length-append, length-take, length-drop) (omega arith)
 
 laid_twice : (page : List ℕ) (at : ℕ) (s t : List ℕ) → at ≤ length page → laid (laid page at s) (at + length s) t ≡ laid page at (s ++ t)
 unfolding laid

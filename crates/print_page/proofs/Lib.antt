@@ -3,4 +3,4 @@ pub mod Digits
 pub mod Edges
 pub mod Laying
 pub mod Lengths
-pub mod Written
+pub mod Minus

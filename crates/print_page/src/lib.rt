@@ -3,13 +3,16 @@
 //
 // No `Display` and `write!`: these contracts promise that a text is laid wherever it has room, and the library's `write!` says what was written only where
 // its answer is `Ok`; no contract says when that is. Nor is a page a type with its place in it: each contract says where its text ends.
+//
+// Digits are laid one by one, and not copied from the library's `itoa`: a copy whose length is not known before it runs calls the C library's `memmove`, which
+// the programs do without.
 #![tactic(auto)]
 
-ghost use Rattle.std.specs.Prelude.{◌++◌, ◌+◌, ◌≤◌, length};
-ghost use Rattle.print_page.specs.Number.{decimal, signed};
+ghost use Rattle.std.specs.Prelude.{◌≡◌, [], ◌∷◌, ◌++◌, ◌+◌, ◌≤◌, ◌<◌, length};
+ghost use Rattle.print_page.specs.Number.{base, digit, decimal, signed};
 ghost use Rattle.print_page.specs.Page.{Lays};
 
-use itoa::{Buffer, Integer};
+const BASE: u64 = 10;
 
 // A word and the figure after it.
 pub fn lay_figure(page: &mut [u8], at: usize, word: &[u8], figure: u64) -> usize
@@ -17,7 +20,7 @@ pub fn lay_figure(page: &mut [u8], at: usize, word: &[u8], figure: u64) -> usize
     ensures { Lays page.old at (word.now ++ decimal figure) result page.new }
 {
     let named = lay_word(page, at, word);
-    lay_number(page, named, figure)
+    lay_decimal(page, named, figure)
 }
 
 // A word, as its bytes stand.
@@ -31,19 +34,33 @@ pub fn lay_word(page: &mut [u8], at: usize, word: &[u8]) -> usize
 }
 
 // A number in decimal, with a minus sign where it is below 0.
-#[tactic(auto, using(crate::proofs::Written::signed_is))]
 pub fn lay_signed(page: &mut [u8], at: usize, number: i64) -> usize
     requires { at + length (signed number) ≤ length page.old }
     ensures { Lays page.old at (signed number) result page.new }
 {
-    lay_number(page, at, number)
+    if number < 0 {
+        let minus = lay_word(page, at, b"-");
+        return lay_decimal(page, minus, number.unsigned_abs());
+    }
+    lay_decimal(page, at, number.unsigned_abs())
 }
 
-// A number of either kind, as the library writes it.
-fn lay_number<I: Integer>(page: &mut [u8], at: usize, number: I) -> usize
-    requires { at + length (I.text number) ≤ length page.old }
-    ensures { Lays page.old at (I.text number) result page.new }
+// A number in decimal. Its digits are laid as they are defined: those of a tenth of it, and then its last.
+fn lay_decimal(page: &mut [u8], at: usize, number: u64) -> usize
+    requires { at + length (decimal number) ≤ length page.old }
+    ensures { Lays page.old at (decimal number) result page.new }
 {
-    let mut digits = Buffer::new();
-    lay_word(page, at, digits.format(number).as_bytes())
+    if number < BASE {
+        return lay_digit(page, at, number);
+    }
+    let last = lay_decimal(page, at, number / BASE);
+    lay_digit(page, last, number % BASE)
+}
+
+fn lay_digit(page: &mut [u8], at: usize, value: u64) -> usize
+    requires { (value < base) × (at < length page.old) }
+    ensures { Lays page.old at (digit value ∷ []) result page.new }
+{
+    page[at] = b'0' + value as u8;
+    at + 1
 }
