@@ -15,7 +15,7 @@ use std::io;
 use std::io::Read;
 
 // Why the reading of an input stops before its end: a record is refused, or a read failed.
-#[derive(Drop)]
+#[derive(Clone, Copy)]
 pub enum Stop {
     Refused(Refusal),
     Failed(io::Error),

@@ -58,9 +58,8 @@ pub fn line(posted: &[u8; RECORD]) -> [u8; RECORD]
     requires { Named posted.now }
     ensures { result ≡ stands_for posted.now }
 {
-    let livestock = Livestock {
-        row: posted[LIVESTOCK_AT],
-    };
+    // The clause asks for a livestock that the tables have.
+    let livestock = Livestock::new(posted[LIVESTOCK_AT]).unwrap();
     let solids = livestock.table_solids(posted[STATE_AT]).to_le_bytes();
     let mass = livestock.mass().to_le_bytes();
     [
